@@ -1,0 +1,4 @@
+pub mod Word
+pub mod Packet
+pub mod Types
+pub mod Check

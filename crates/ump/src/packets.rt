@@ -1,0 +1,39 @@
+// Packets in a stream of words.
+ghost use mathlib.Core.Path.{_≡_};
+ghost use Prim.Native.Nat.{_+_};
+ghost use lib.ListN.{drop, length};
+ghost use Rattle.ump.specs.Packet.{packet};
+ghost use Rattle.ump.specs.Packet;
+
+// The words of a packet, by its first word.
+pub fn size(w: u32) -> usize
+    ensures { λ r. ⌜ r ≡ Packet.size w ⌝ }
+{
+    let sizes: [usize; 16] = [1, 1, 1, 2, 2, 4, 1, 1, 2, 2, 2, 3, 3, 4, 4, 4];
+    let t = (w / 268435456 % 16) as usize;
+    sizes[t]
+}
+
+// The packet at a place: its own words, a part of the caller's. An empty part where no whole packet
+// is left or the place is past the end.
+pub fn packet_at(words: &[u32], at: usize) -> &[u32]
+    ensures { λ r. ⌜ now r ≡ packet (drop at (now (words .entry))) ⌝ }
+{
+    if words.len() <= at {
+        return &words[0..0];
+    }
+    let n = size(words[at]);
+    if words.len() - at < n {
+        return &words[0..0];
+    }
+    let end = at + n;
+    &words[at..end]
+}
+
+// The place after the packet at a place, and that place itself where there is no whole packet.
+pub fn next_place(words: &[u32], at: usize) -> usize
+    ensures { λ r. ⌜ r ≡ at + length (packet (drop at (now (words .entry)))) ⌝ }
+{
+    let p = packet_at(words, at);
+    at + p.len()
+}
