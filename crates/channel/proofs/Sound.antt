@@ -4,7 +4,7 @@ use mathlib.Core.Bool.{Bool, true, false, false≢true, cond, not, _&&_, _||_}
 use Prim.Native.Nat.{ℕ, _≤_}
 use lib.Dec.{eqb, leb}
 use native.Mathlib.Omega.{arith}
-use borrow.Author.Tests.{le-leb, leb-true, ne-eqb}
+use borrow.Author.Tests.{le-leb, leb-true, ne-eqb, not-true}
 use Rattle.channel.specs.declared.Record.{Record}
 use Rattle.channel.specs.Record.{StaysSound, addressed, complete, dataHighPresent, empty, kept, null, number, present, sound, withAddressBank, withAddressIndex, withBankHigh, withBankLow, withBankSpent, withDataHigh}
 use Rattle.channel.proofs.Bools.{and-false, and-left, and-right, bools}
@@ -80,6 +80,38 @@ pub record Parts (r : Record) : Type 0 where
 pub parts : (r : Record) → sound r ≡ true → Parts r
 unfolding sound
 parts r t = search (and-left, and-right)
+
+present-small : (n : ℕ) → number n ≡ true → present n ≡ true → n ≤ 127
+present-small n h p = leb-true n 127 (go (leb n 127) (eqb n 255) h p)
+  where
+    go : (a b : Bool) → (a || b) ≡ true → not b ≡ true → a ≡ true
+    go true b h p = refl
+    go false true h p = p
+    go false false h p = h
+
+-- what a sound record with data high says of its address
+pub record Opened (r : Record) : Type 0 where
+  pub data-small : r .«data_high» ≤ 127
+  pub bank-small : r .«address_bank» ≤ 127
+  pub index-small : r .«address_index» ≤ 127
+  pub known : leb (r .kind) 2 ≡ true
+  pub some : eqb (r .kind) 0 ≡ false
+  pub not-null : null r ≡ false
+
+pub opened : (r : Record) → sound r ≡ true → dataHighPresent r ≡ true → Opened r
+opened r t p =
+    let q = parts r t in
+    let e : (complete r && not (null r)) ≡ true = simp p at (q .opened) in
+    let c = and-left (complete r) (not (null r)) e in
+    let b = and-right (not (eqb (r .kind) 0)) (present (r .«address_bank») && present (r .«address_index»)) c in
+    record {
+      data-small = present-small (r .«data_high») (q .data-number) p;
+      bank-small = present-small (r .«address_bank») (q .bank) (and-left (present (r .«address_bank»)) (present (r .«address_index»)) b);
+      index-small = present-small (r .«address_index») (q .index) (and-right (present (r .«address_bank»)) (present (r .«address_index»)) b);
+      known = q .kind-known;
+      some = not-true (eqb (r .kind) 0) (and-left (not (eqb (r .kind) 0)) (present (r .«address_bank») && present (r .«address_index»)) c);
+      not-null = not-true (null r) (and-right (complete r) (not (null r)) e);
+    }
 
 small : (v : ℕ) → v ≤ 127 → number v ≡ true
 small v h = rw (le-leb v 127 h)

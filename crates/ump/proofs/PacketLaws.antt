@@ -123,3 +123,13 @@ cut-at a i h = rw (drop-cons a i 0 h, cut-cons (getD a i 0) (drop (suc i) a), �
 pub cut-end : (a : List ℕ) (i : ℕ) → length a ≤ i → cut (drop i a) ≡ []
 unfolding cut cutAfter
 cut-end a i h = rw (drop-of-length-le a h)
+
+-- a packet has at most four words
+pub packet-four : (s : List ℕ) → length (packet s) ≤ 4
+unfolding packet
+packet-four [] = omega arith
+packet-four (w ∷ s) = go (leb (size w) (length (w ∷ s)))
+  where
+    go : (b : Bool) → length (cond b (take (size w) (w ∷ s)) []) ≤ 4
+    go true = omega (arith, length-take (size w) (w ∷ s), size-range w)
+    go false = omega arith

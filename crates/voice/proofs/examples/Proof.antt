@@ -1,0 +1,21 @@
+-- `voice::examples` meets its contract: both sides of each example compute to the same words. Assumes nothing.
+use mathlib.Core.Path.{refl}
+use Rattle.scale.specs.Scale.{fill, up}
+use Rattle.ump.specs.Packet.{packet, size}
+use Rattle.ump.specs.Types.{typed}
+use Rattle.ump.specs.Check.{check, fields, goodStatus, voice1Fields, voice2Fields, within}
+use Rattle.channel.specs.Record.{kept, sound, withDataHigh}
+use Rattle.voice.specs.Message.{bankOf, first2, read1, read2, second2, write1}
+use Rattle.voice.specs.Lift.{addressed2, banked2, controlOf, controlled, dataLow, lift}
+use Rattle.voice.specs.Lower.{lower, sounding}
+use Rattle.voice.specs.Packet.{callDown, callUp, packetDown, packetUp, speakDown, speakUp}
+use Rattle.voice.specs.Examples.{Examples, examples, goingDown, goingUp}
+use Rattle.voice.proofs.examples.Statement.{statement}
+use Rattle.voice.proofs.examples.Tie as tie
+
+returns : tie.Need-returns
+unfolding fill up packet size typed check fields goodStatus voice1Fields voice2Fields within kept sound withDataHigh bankOf first2 read1 read2 second2 write1 addressed2 banked2 controlOf controlled dataLow lift lower sounding callDown callUp packetDown packetUp speakDown speakUp Examples examples goingDown goingUp
+returns c = refl
+
+pub examples-spec : {M : Type 1} → statement M
+examples-spec = tie.close (tie.spec returns)

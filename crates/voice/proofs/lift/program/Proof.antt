@@ -1,0 +1,26 @@
+-- `voice::lift::program` meets its contract: the bank goes along where both halves are present. Assumes nothing.
+use Rattle.voice.specs.Lift.{lift, banked2}
+use Rattle.voice.specs.Message.{first2, second2}
+use borrow.Author.Needs.{needs}
+use Rattle.voice.proofs.lift.program.Statement.{statement}
+use Rattle.voice.proofs.lift.program.Tie as tie
+
+pub program-spec : {M : Type 1} → statement M
+unfolding banked2 first2 lift second2
+program-spec =
+    tie.close
+    (tie.spec
+    (λ c. search needs)
+    (λ c κs. search needs)
+    (λ c κs. search needs)
+    (λ c. search needs)
+    (λ c. search needs)
+    (λ c. search needs)
+    (λ c. search needs)
+    (λ c. search needs)
+    (λ c κs. search needs)
+    (λ c κs. search needs)
+    (λ c κs. search needs)
+    (λ c κs. search needs)
+    (λ c. simp (c .sent-up .ensures, c .before .voice-word .ensures, c .before .before .with-bank-spent .ensures, c .before .before .before .if1 .taken))
+    (λ c. simp (c .sent-up2 .ensures, c .before .voice-word2 .ensures, c .before .before .with-bank-spent2 .ensures, c .before .before .before .if1 .left)))

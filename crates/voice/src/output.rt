@@ -1,0 +1,109 @@
+// Words: building them, and storing up to four into a lent output.
+use crate::Sent;
+ghost use mathlib.Core.Path.{_≡_};
+ghost use mathlib.Core.Bool.{cond};
+ghost use Prim.Native.Nat.{_-_, _<_, _≤_};
+ghost use mathlib.Core.List.{[], _∷_};
+ghost use lib.Dec.{leb};
+ghost use lib.ListN.{getD, length};
+ghost use Rattle.ump.specs.Word.{channelOf, groupOf};
+ghost use Rattle.voice.specs.Message.{voiceWord};
+ghost use Rattle.voice.specs.Output.{packed, wordsOf, written};
+
+// A word of type t in the group and channel of w.
+pub(crate) fn voice_word(t: u32, status: u32, a: u32, b: u32, w: u32) -> u32
+    requires { ⌜ (t < 16) × (status < 16) × (a < 256) × (b < 256) ⌝ }
+    ensures { λ r. ⌜ r ≡ voiceWord t (groupOf w) status (channelOf w) a b ⌝ }
+{
+    let g = ump::group_of(w);
+    let c = ump::channel_of(w);
+    t * 268435456 + (g.0 as u32) * 16777216 + status * 1048576 + (c.0 as u32) * 65536 + a * 256 + b
+}
+
+// The word at i, 0 past the end.
+pub(crate) fn word_at(p: &[u32], i: usize) -> u32
+    ensures { λ r. ⌜ r ≡ getD (now (p .entry)) i 0 ⌝ }
+{
+    if i < p.len() { p[i] } else { 0 }
+}
+
+pub(crate) fn no_words() -> Sent
+    ensures { λ r. ⌜ r ≡ packed [] ⌝ }
+{
+    Sent {
+        count: 0,
+        a: 0,
+        b: 0,
+        c: 0,
+        d: 0,
+    }
+}
+
+pub(crate) fn two_words(a: u32, b: u32) -> Sent
+    ensures { λ r. ⌜ r ≡ packed (a ∷ b ∷ []) ⌝ }
+{
+    Sent {
+        count: 2,
+        a,
+        b,
+        c: 0,
+        d: 0,
+    }
+}
+
+// A packet's own words.
+pub(crate) fn same_words(p: &[u32]) -> Sent
+    ensures { λ r. ⌜ r ≡ packed (now (p .entry)) ⌝ }
+{
+    Sent {
+        count: p.len(),
+        a: word_at(p, 0),
+        b: word_at(p, 1),
+        c: word_at(p, 2),
+        d: word_at(p, 3),
+    }
+}
+
+// Stores the words from a place on and answers true, or, where they do not fit, stores nothing and
+// answers false.
+pub(crate) fn put(out: &mut [u32], to: usize, sent: Sent) -> bool
+    requires { ⌜ sent .count ≤ 4 ⌝ }
+    ensures { λ r. ⌜ (r ≡ leb (length (wordsOf sent)) (length (now (out .entry)) - to))
+        × (now (out .exit) ≡ cond (leb (length (wordsOf sent)) (length (now (out .entry)) - to)) (written to (wordsOf sent) (now (out .entry))) (now (out .entry))) ⌝ }
+{
+    let count = sent.count;
+    if count == 0 {
+        return true;
+    }
+    if out.len() <= to {
+        return false;
+    }
+    let room = out.len() - to;
+    if room < count {
+        return false;
+    }
+    match count {
+        1 => {
+            out[to] = sent.a;
+            true
+        }
+        2 => {
+            out[to] = sent.a;
+            out[to + 1] = sent.b;
+            true
+        }
+        3 => {
+            out[to] = sent.a;
+            out[to + 1] = sent.b;
+            out[to + 2] = sent.c;
+            true
+        }
+        _ => {
+            out[to] = sent.a;
+            out[to + 1] = sent.b;
+            out[to + 2] = sent.c;
+            out[to + 3] = sent.d;
+            true
+        }
+    }
+}
