@@ -1,0 +1,13 @@
+-- `quernbrae::start` meets its contract: both ask first whether the table has 256 records. Assumes nothing.
+use borrow.Author.Tests.{eq-eqb, ne-eqb}
+use Rattle.quernbrae.proofs.start.Statement.{statement}
+use Rattle.quernbrae.proofs.start.Tie as tie
+
+returns : tie.Need-returns
+returns c = simp (eq-eqb _ _ (c .if1 .taken))
+
+returns-2 : tie.Need-returns-2
+returns-2 c = simp (ne-eqb _ _ (c .if1 .left))
+
+pub start-spec : {M : Type 1} → statement M
+start-spec = tie.close (tie.spec returns returns-2)

@@ -1,0 +1,240 @@
+// What a caller uses: one call and a run, over the table that the caller lends.
+mod reader;
+
+use channel::Record;
+pub use reader::Reader;
+pub use reader::first_packet_end;
+pub use reader::moved_on;
+pub use reader::packet;
+pub use reader::read_from;
+use voice::Done;
+ghost use mathlib.Core.Path.{_≡_};
+ghost use lib.ListN.{getD, length};
+ghost use Rattle.channel.specs.Record.{empty, fresh};
+ghost use Rattle.ump.specs.Packet.{packet};
+ghost use Rattle.voice.specs.Call.{leftOf, sentOf, within};
+ghost use Rattle.voice.specs.Output.{done};
+ghost use Rattle.voice.specs.Packet.{callDown};
+ghost use Rattle.quernbrae.specs.Run.{atStart, reported};
+ghost use Rattle.quernbrae.specs.Table.{runDown, runUp, tableUp};
+ghost use Rattle.quernbrae.specs.Loop.{callOf, finishedOf, oneO, oneP, oneT, outOf, placeAt, refusedOf, runOf, startOf, steppedOf, treated};
+
+// How far a call or a run is: the answer to the last packet, the words read and written so far, and
+// whether another packet is to be treated.
+pub struct Progress {
+    pub answer: u32,
+    pub read: usize,
+    pub written: usize,
+    pub more: bool,
+}
+
+pub struct Stepped {
+    pub after: Record,
+    pub progress: Progress,
+}
+
+fn start(n: usize, end: usize) -> Progress
+    ensures { λ r. ⌜ r ≡ startOf n end ⌝ }
+{
+    if n == 256 {
+        return Progress {
+            answer: 0,
+            read: 0,
+            written: 0,
+            more: 0 < end,
+        };
+    }
+    Progress {
+        answer: 10,
+        read: 0,
+        written: 0,
+        more: false,
+    }
+}
+
+fn word_at(words: &[u32], at: usize) -> u32
+    ensures { λ r. ⌜ r ≡ getD (now (words .entry)) at 0 ⌝ }
+{
+    if at < words.len() { words[at] } else { 0 }
+}
+
+// Where the next packet's record stands in a table of n, and n where it is refused.
+fn place_of(n: usize, words: &[u32], p: Progress) -> usize
+    ensures { λ r. ⌜ r ≡ placeAt n (now (words .entry)) p ⌝ }
+{
+    if n == 256 {
+        let w = word_at(words, p.read);
+        return ump::record_number(ump::group_of(w), ump::channel_of(w));
+    }
+    n
+}
+
+// One packet, with its record.
+fn step(words: &[u32], end: usize, p: Progress, record: Record, out: &mut [u32]) -> Stepped
+    ensures { λ r. ⌜ (r ≡ steppedOf (now (words .entry)) end p «record» (now (out .entry)))
+        × (now (out .exit) ≡ outOf (now (words .entry)) p «record» (now (out .entry))) ⌝ }
+{
+    let at = p.read;
+    let to = p.written;
+    let upped = voice::up(words, at, record, out, to);
+    let after = upped.after;
+    let done = upped.done;
+    let read = at + done.read;
+    let written = to + done.written;
+    let more = !(done.read == 0) & (read < end);
+    Stepped {
+        after,
+        progress: Progress {
+            answer: done.answer,
+            read,
+            written,
+            more,
+        },
+    }
+}
+
+fn refused(p: Progress) -> Progress
+    ensures { λ r. ⌜ r ≡ refusedOf p ⌝ }
+{
+    Progress {
+        answer: 10,
+        read: p.read,
+        written: p.written,
+        more: false,
+    }
+}
+
+// One packet, with the table: one record is read, and one is stored.
+fn one(words: &[u32], end: usize, p: Progress, table: &mut [Record], out: &mut [u32]) -> Progress
+    ensures { λ r. ⌜ (r ≡ oneP (now (words .entry)) end p (now (table .entry)) (now (out .entry)))
+        × (now (table .exit) ≡ oneT (now (words .entry)) end p (now (table .entry)) (now (out .entry)))
+        × (now (out .exit) ≡ oneO (now (words .entry)) end p (now (table .entry)) (now (out .entry))) ⌝ }
+{
+    let i = place_of(table.len(), words, p);
+    if i < table.len() {
+        let s = step(words, end, p, table[i], out);
+        table[i] = s.after;
+        s.progress
+    } else {
+        refused(p)
+    }
+}
+
+// The packets from the start of the words to the place `end`.
+fn treat(words: &[u32], end: usize, table: &mut [Record], out: &mut [u32]) -> Progress
+    ensures { λ r. ⌜ (r ≡ treated (now (words .entry)) end (now (table .entry)) (now (out .entry)) .p)
+        × (now (table .exit) ≡ treated (now (words .entry)) end (now (table .entry)) (now (out .entry)) .tb)
+        × (now (out .exit) ≡ treated (now (words .entry)) end (now (table .entry)) (now (out .entry)) .out) ⌝ }
+{
+    let mut p = start(table.len(), end);
+    while p.more {
+        p = one(words, end, p, table, out);
+    }
+    p
+}
+
+fn call_of(p: Progress) -> Done
+    ensures { λ r. ⌜ r ≡ callOf p ⌝ }
+{
+    Done {
+        answer: p.answer,
+        read: p.read,
+        written: p.written,
+    }
+}
+
+// 3, 8, 9 and 10 stop a run; after any other answer it has finished.
+fn finished(answer: u32) -> u32
+    ensures { λ r. ⌜ r ≡ finishedOf answer ⌝ }
+{
+    if (answer == 3) | (answer == 8) | (answer == 9) | (answer == 10) {
+        answer
+    } else {
+        0
+    }
+}
+
+fn run_of(p: Progress) -> Done
+    ensures { λ r. ⌜ r ≡ runOf p ⌝ }
+{
+    Done {
+        answer: finished(p.answer),
+        read: p.read,
+        written: p.written,
+    }
+}
+
+// An empty record.
+#[no_mangle]
+pub extern "C" fn quernbrae_empty() -> Record
+    ensures { λ r. ⌜ r ≡ empty ⌝ }
+{
+    Record::empty()
+}
+
+// One call up: the packet at the start of the words.
+#[no_mangle]
+pub extern "C" fn quernbrae_up(words: &[u32], table: &mut [Record], out: &mut [u32]) -> Done
+    ensures { λ r. ⌜ (r ≡ done (length (packet (now (words .entry)))) (within tableUp (length (now (out .entry)), now (table .entry)) (now (words .entry))))
+        × (now (table .exit) ≡ leftOf (length (now (out .entry)), now (table .entry)) (within tableUp (length (now (out .entry)), now (table .entry)) (now (words .entry))) .1)
+        × (now (out .exit) ≡ atStart (sentOf (within tableUp (length (now (out .entry)), now (table .entry)) (now (words .entry)))) (now (out .entry))) ⌝ }
+{
+    let p = treat(words, 1, table, out);
+    call_of(p)
+}
+
+// A run up: every packet of the words, until one stops it.
+#[no_mangle]
+pub extern "C" fn quernbrae_run_up(words: &[u32], table: &mut [Record], out: &mut [u32]) -> Done
+    ensures { λ r. ⌜ (r ≡ reported (runUp (length (now (out .entry))) (now (table .entry)) (now (words .entry))))
+        × (now (table .exit) ≡ (runUp (length (now (out .entry))) (now (table .entry)) (now (words .entry))) .left .1)
+        × (now (out .exit) ≡ atStart ((runUp (length (now (out .entry))) (now (table .entry)) (now (words .entry))) .sent) (now (out .entry))) ⌝ }
+{
+    let p = treat(words, words.len(), table, out);
+    run_of(p)
+}
+
+// A run up from a fresh table.
+pub fn run_fresh(words: &[u32], out: &mut [u32]) -> Done
+    ensures { λ r. ⌜ (r ≡ reported (runUp (length (now (out .entry))) fresh (now (words .entry))))
+        × (now (out .exit) ≡ atStart (runUp (length (now (out .entry))) fresh (now (words .entry)) .sent) (now (out .entry))) ⌝ }
+{
+    let mut table = channel::fresh_table();
+    quernbrae_run_up(words, &mut table, out)
+}
+
+// One call down: the packet at the start of the words.
+#[no_mangle]
+pub extern "C" fn quernbrae_down(words: &[u32], out: &mut [u32]) -> Done
+    ensures { λ r. ⌜ (r ≡ done (length (packet (now (words .entry)))) (within callDown (length (now (out .entry)), tt) (now (words .entry))))
+        × (now (out .exit) ≡ atStart (sentOf (within callDown (length (now (out .entry)), tt) (now (words .entry)))) (now (out .entry))) ⌝ }
+{
+    voice::down(words, 0, out, 0)
+}
+
+// A run down: every packet of the words, until one stops it.
+#[no_mangle]
+pub extern "C" fn quernbrae_run_down(words: &[u32], out: &mut [u32]) -> Done
+    ensures { λ r. ⌜ (r ≡ reported (runDown (length (now (out .entry))) (now (words .entry))))
+        × (now (out .exit) ≡ atStart (runDown (length (now (out .entry))) (now (words .entry)) .sent) (now (out .entry))) ⌝ }
+{
+    let mut read: usize = 0;
+    let mut written: usize = 0;
+    while read < words.len() {
+        let done = voice::down(words, read, out, written);
+        if done.read == 0 {
+            return Done {
+                answer: done.answer,
+                read,
+                written,
+            };
+        }
+        read += done.read;
+        written += done.written;
+    }
+    Done {
+        answer: 0,
+        read,
+        written,
+    }
+}
