@@ -6,8 +6,8 @@ use Prim.Native.Nat.{ℕ, zero, suc, _<_}
 use native.Mathlib.Omega.{arith}
 use lib.Dec.{leb}
 use borrow.Author.Tests.{lt-leb}
-use Rattle.ump.specs.Word.{count}
-use Rattle.ump.specs.Check.{Field, exclusiveFields, within}
+use Rattle.ump.specs.Word.{count, messageType}
+use Rattle.ump.specs.Check.{Field, check, checkVoice1, exclusiveFields, fields, goodStatus, within}
 
 first-above : (f : Field) (fs : List Field) → leb (f .value) (f .most) ≡ false → within (f ∷ fs) ≡ false
 unfolding within
@@ -28,3 +28,8 @@ above-six (suc (suc (suc (suc zero)))) a b c d e f g = absurd (e refl)
 above-six (suc (suc (suc (suc (suc zero))))) a b c d e f g = absurd (f refl)
 above-six (suc (suc (suc (suc (suc (suc zero)))))) a b c d e f g = absurd (g refl)
 above-six (suc (suc (suc (suc (suc (suc (suc n))))))) a b c d e f g = omega arith
+
+-- of MT 2 the check is that of one word
+pub check-voice1 : (w v : ℕ) → messageType w ≡ 2 → check w v ≡ checkVoice1 w
+unfolding check goodStatus fields checkVoice1
+check-voice1 w v h = rw h

@@ -15,12 +15,16 @@ systemStatus b =
     eqb b 0xF1 || eqb b 0xF2 || eqb b 0xF3 || eqb b 0xF6 || eqb b 0xF8 || eqb b 0xFA || eqb b 0xFB || eqb b 0xFC
     || eqb b 0xFE || eqb b 0xFF
 
+-- MT 2: "status 8 to E"
+abbrev pub voice1Status : ℕ → Bool
+voice1Status w = leb 8 (status w) && leb (status w) 14
+
 -- MT 0: "0 to 4"; MT 2: "8 to E"; MT 3: "0 to 3"; MT 4: "any status but 7". MT 5, D and F: "contents not read".
 unfoldable pub goodStatus : ℕ → Bool
 goodStatus w =
     cond (eqb (messageType w) 0) (leb (status w) 4)
     (cond (eqb (messageType w) 1) (systemStatus (statusByte w))
-    (cond (eqb (messageType w) 2) (leb 8 (status w) && leb (status w) 14)
+    (cond (eqb (messageType w) 2) (voice1Status w)
     (cond (eqb (messageType w) 3) (leb (status w) 3)
     (cond (eqb (messageType w) 4) (not (eqb (status w) 7)) true))))
 
@@ -75,3 +79,7 @@ within (f ∷ g ∷ fs) = leb (f .value) (f .most) && within (g ∷ fs)
 -- "bad status" before "bad data"
 unfoldable pub check : ℕ → ℕ → Checked
 check w v = cond (goodStatus w) (cond (within (fields w v)) Good BadData) BadStatus
+
+-- the same for a packet that is known to be of MT 2
+unfoldable pub checkVoice1 : ℕ → Checked
+checkVoice1 w = cond (voice1Status w) (cond (within (voice1Fields w)) Good BadData) BadStatus

@@ -1,7 +1,7 @@
 // The second stage: the packet's status, and its fields in packet order.
 use crate::Checked;
 ghost use mathlib.Core.Path.{_≡_};
-ghost use Rattle.ump.specs.Check.{exclusiveFields, fields, goodStatus, systemFields, systemStatus, voice1Fields, voice2Fields, within};
+ghost use Rattle.ump.specs.Check.{checkVoice1, exclusiveFields, fields, goodStatus, systemFields, systemStatus, voice1Fields, voice1Status, voice2Fields, within};
 ghost use Rattle.ump.specs.Check;
 
 fn is_system_status(b: u32) -> bool
@@ -19,6 +19,13 @@ fn is_system_status(b: u32) -> bool
         | (b == 0xFF)
 }
 
+fn is_voice1_status(w: u32) -> bool
+    ensures { λ r. ⌜ r ≡ voice1Status w ⌝ }
+{
+    let status = w / 1048576 % 16;
+    (8 <= status) & (status <= 14)
+}
+
 fn is_good_status(w: u32) -> bool
     ensures { λ r. ⌜ r ≡ goodStatus w ⌝ }
 {
@@ -27,7 +34,7 @@ fn is_good_status(w: u32) -> bool
     match t {
         0 => status <= 4,
         1 => is_system_status(w / 65536 % 256),
-        2 => (8 <= status) & (status <= 14),
+        2 => is_voice1_status(w),
         3 => status <= 3,
         4 => !(status == 7),
         _ => true,
@@ -123,6 +130,21 @@ pub fn check(w: u32, v: u32) -> Checked
 {
     if is_good_status(w) {
         if is_good_data(w, v) {
+            Checked::Good
+        } else {
+            Checked::BadData
+        }
+    } else {
+        Checked::BadStatus
+    }
+}
+
+// A packet of MT 2, by its one word: the check that the translation upward asks most.
+pub fn check_voice1(w: u32) -> Checked
+    ensures { λ r. ⌜ r ≡ checkVoice1 w ⌝ }
+{
+    if is_voice1_status(w) {
+        if is_good_voice1(w) {
             Checked::Good
         } else {
             Checked::BadData

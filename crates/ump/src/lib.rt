@@ -8,6 +8,7 @@ mod types;
 mod word;
 
 pub use checks::check;
+pub use checks::check_voice1;
 pub use packets::next_place;
 pub use packets::packet_at;
 pub use packets::size;

@@ -9,9 +9,21 @@ ghost use Rattle.ump.specs.Packet;
 pub fn size(w: u32) -> usize
     ensures { λ r. ⌜ r ≡ Packet.size w ⌝ }
 {
-    let sizes: [usize; 16] = [1, 1, 1, 2, 2, 4, 1, 1, 2, 2, 2, 3, 3, 4, 4, 4];
-    let t = (w / 268435456 % 16) as usize;
-    sizes[t]
+    let t = w / 268435456 % 16;
+    match t {
+        3 => 2,
+        4 => 2,
+        5 => 4,
+        8 => 2,
+        9 => 2,
+        10 => 2,
+        11 => 3,
+        12 => 3,
+        13 => 4,
+        14 => 4,
+        15 => 4,
+        _ => 1,
+    }
 }
 
 // The packet at a place: its own words, a part of the caller's. An empty part where no whole packet

@@ -28,8 +28,9 @@ ghost use mathlib.Core.List.{[]};
 ghost use Prim.Native.Nat.{_-_};
 ghost use lib.ListN.{drop, length};
 ghost use Rattle.ump.specs.Packet.{packet};
+ghost use Rattle.ump.specs.Word.{messageType};
 ghost use Rattle.voice.specs.Call.{fit, sentOf};
-ghost use Rattle.voice.specs.Packet.{found, onwardOf, packetDown, packetUp, speakDown, speakUp, voiceDownOf, voiceUpOf};
+ghost use Rattle.voice.specs.Packet.{first, found, onwardOf, packetDown, packetUp, speakDown, speakUp, voiceDownOf, voiceUpOf};
 ghost use Rattle.voice.specs.Output.{acted, actedUp, done, packed, upped, written};
 
 fn nothing(answer: u32, read: usize) -> Acted
@@ -98,12 +99,14 @@ fn speak_up(n: usize, record: Record, w: u32) -> ActedUp
 }
 
 fn voice_up(packet: &[u32], record: Record) -> ActedUp
+    requires { ⌜ messageType (first (now packet)) ≡ 2 ⌝ }
     ensures { λ r. ⌜ r ≡ actedUp (length (now (packet .entry))) «record» (voiceUpOf «record» (now (packet .entry))) ⌝ }
 {
     let n = packet.len();
-    let found = check_of(packet);
+    let w = word_at(packet, 0);
+    let found = ump::check_voice1(w);
     match found {
-        Checked::Good => speak_up(n, record, word_at(packet, 0)),
+        Checked::Good => speak_up(n, record, w),
         Checked::BadStatus => unchanged(record, nothing(BAD_STATUS, n)),
         Checked::BadData => unchanged(record, nothing(BAD_DATA, n)),
     }

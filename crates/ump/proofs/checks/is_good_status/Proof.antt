@@ -11,9 +11,10 @@ is-good-status-spec =
     tie.close
     (tie.spec
     (λ c κs. search needs)
+    (λ c κs. search needs)
     (λ c. simp (c .match .keys1))
     (λ c. simp (c .is-system-status .ensures, c .before .match .keys2))
-    (λ c. simp (c .match .keys3))
+    (λ c. simp (c .is-voice1-status .ensures, c .before .match .keys3))
     (λ c. simp (c .match .keys4))
     (λ c. simp (c .match .keys5))
     (λ c. simp (ne-eqb _ _ (c .match .rest .1), ne-eqb _ _ (c .match .rest .0 .1), ne-eqb _ _ (c .match .rest .0 .0 .1), ne-eqb _ _ (c .match .rest .0 .0 .0 .1), ne-eqb _ _ (c .match .rest .0 .0 .0 .0 .1))))

@@ -1,5 +1,7 @@
 -- `voice::act::act_up` meets its contract, type by type; what is sent on leaves the record alone. Assumes nothing.
+use mathlib.Core.Path.{sym, _∙_}
 use denote.Ref.{now}
+use Rattle.ump.proofs.TypeLaws.{voice-type}
 use lib.ListN.{length}
 use Rattle.voice.specs.Packet.{found}
 use Rattle.voice.proofs.ActLaws.{onward-up}
@@ -24,7 +26,7 @@ act-up-spec =
     (λ c κs. search needs)
     (λ c κs. search needs)
     (λ c. search needs)
-    (λ c κs. search needs)
+    (λ c κs. voice-type 2 4 (now (c .before .before .before .before .args .packet)) (sym (c .before .before .type-up .ensures) ∙ c .enum-told4 .given .1))
     (λ c. search needs)
     (λ c κs. search needs)
     (λ c κs. search needs)

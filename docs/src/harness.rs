@@ -1,0 +1,551 @@
+//! Holds single calls and runs of the product's static library to the reading, or times both.
+//! Usage: harness [CASES] with the number of random cases, which follow a million swept ones;
+//! or: harness time
+
+mod packets;
+mod timing;
+
+use packets::{packet, Dice};
+use reading::{empty, size, Done, Record, MISSING};
+
+#[link(name = "quernbrae", kind = "static")]
+extern "C" {
+    fn quernbrae_empty() -> Record;
+    fn quernbrae_up(
+        words: *const u32,
+        words_len: usize,
+        table: *mut Record,
+        table_len: usize,
+        out: *mut u32,
+        out_len: usize,
+    ) -> Done;
+    fn quernbrae_run_up(
+        words: *const u32,
+        words_len: usize,
+        table: *mut Record,
+        table_len: usize,
+        out: *mut u32,
+        out_len: usize,
+    ) -> Done;
+    fn quernbrae_down(words: *const u32, words_len: usize, out: *mut u32, out_len: usize) -> Done;
+    fn quernbrae_run_down(
+        words: *const u32,
+        words_len: usize,
+        out: *mut u32,
+        out_len: usize,
+    ) -> Done;
+}
+
+const DEFAULT_CASES: usize = 1_000_000;
+
+/// The longest table that is lent, and the records kept behind it.
+const TABLE_SPACE: usize = 512 + 8;
+
+/// Words behind the stream and behind the output that a call must leave alone.
+const GUARDS: usize = 16;
+
+#[derive(Clone, Copy, Debug)]
+enum Function {
+    Up,
+    RunUp,
+    Down,
+    RunDown,
+}
+
+use Function::{Down, RunDown, RunUp, Up};
+
+/// The four functions, each with the answers that can occur in it.
+const FUNCTIONS: [(Function, &[usize]); 4] = [
+    (Up, &[0, 1, 3, 4, 5, 6, 7, 8, 9, 10]),
+    (RunUp, &[0, 3, 8, 9, 10]),
+    (Down, &[0, 2, 3, 4, 5, 6, 7, 9]),
+    (RunDown, &[0, 3, 9]),
+];
+
+impl Function {
+    fn goes_up(self) -> bool {
+        matches!(self, Up | RunUp)
+    }
+
+    fn runs(self) -> bool {
+        matches!(self, RunUp | RunDown)
+    }
+}
+
+/// What one call is lent. The vectors go on behind the lent parts, with what must not be touched.
+struct Lent {
+    words: Vec<u32>,
+    words_len: usize,
+    table: Vec<Record>,
+    table_len: usize,
+    out: Vec<u32>,
+    room: usize,
+}
+
+impl Lent {
+    fn new() -> Lent {
+        let (words, out) = (vec![], vec![]);
+        let table = vec![empty(); TABLE_SPACE];
+        Lent {
+            words,
+            words_len: 0,
+            table,
+            table_len: 256,
+            out,
+            room: 0,
+        }
+    }
+
+    fn copy_from(&mut self, other: &Lent) {
+        self.words.clone_from(&other.words);
+        self.words_len = other.words_len;
+        self.table.copy_from_slice(&other.table);
+        self.table_len = other.table_len;
+        self.out.clone_from(&other.out);
+        self.room = other.room;
+    }
+
+    /// The number of the record that belongs to the first packet, if that is a voice.
+    fn own(&self) -> usize {
+        let first = self.words.first().copied().unwrap_or(0);
+        (first >> 20 & 0xF0 | first >> 16 & 0x0F) as usize
+    }
+
+    fn set_room(&mut self, room: usize, filler: u32) {
+        self.room = room;
+        self.out.clear();
+        self.out.resize(room + GUARDS, filler);
+    }
+
+    fn reading(&mut self, function: Function) -> Done {
+        let words = &self.words[..self.words_len];
+        let table = &mut self.table[..self.table_len];
+        let out = &mut self.out[..self.room];
+        match function {
+            Up => reading::up(words, table, out),
+            RunUp => reading::run_up(words, table, out),
+            Down => reading::down(words, out),
+            RunDown => reading::run_down(words, out),
+        }
+    }
+
+    fn product(&mut self, function: Function) -> Done {
+        self.product_from(function, 0, 0, self.room)
+    }
+
+    /// The product's call on the words from `read` on, with `room` words from `written` on.
+    fn product_from(
+        &mut self,
+        function: Function,
+        read: usize,
+        written: usize,
+        room: usize,
+    ) -> Done {
+        assert!(read <= self.words_len && written + room <= self.out.len());
+        let (table, table_len) = (self.table.as_mut_ptr(), self.table_len);
+        let words_len = self.words_len - read;
+        // The lent parts lie within the vectors, as asserted.
+        unsafe {
+            let words = self.words.as_ptr().add(read);
+            let out = self.out.as_mut_ptr().add(written);
+            match function {
+                Up => quernbrae_up(words, words_len, table, table_len, out, room),
+                RunUp => quernbrae_run_up(words, words_len, table, table_len, out, room),
+                Down => quernbrae_down(words, words_len, out, room),
+                RunDown => quernbrae_run_down(words, words_len, out, room),
+            }
+        }
+    }
+}
+
+/// The case in hand, a copy for either side, and what was seen so far.
+struct Comparison {
+    dice: Dice,
+    case: Lent,
+    product: Lent,
+    reading: Lent,
+    cases: usize,
+    taken_up_again: usize,
+    seen: [[usize; 11]; 4],
+}
+
+impl Comparison {
+    fn new() -> Comparison {
+        Comparison {
+            dice: Dice::new(0),
+            case: Lent::new(),
+            product: Lent::new(),
+            reading: Lent::new(),
+            cases: 0,
+            taken_up_again: 0,
+            seen: [[0; 11]; 4],
+        }
+    }
+
+    fn copy_case(&mut self) {
+        self.product.copy_from(&self.case);
+        self.reading.copy_from(&self.case);
+    }
+
+    /// Calls both sides on the case and compares all that they return and all that they were lent.
+    fn compare(&mut self, function: Function) {
+        self.copy_case();
+        let done = self.product.product(function);
+        let expected = self.reading.reading(function);
+        self.hold(function, done, expected);
+        self.cases += 1;
+        self.seen[function as usize][expected.answer as usize] += 1;
+        if function.runs() && expected.answer == reading::OUTPUT_SHORT {
+            self.take_up_again(function);
+        }
+    }
+
+    /// A run that stopped at 9 is taken up again where it reports, with more room: the whole comes.
+    fn take_up_again(&mut self, function: Function) {
+        let mut room = self.case.room;
+        let ample = 2 * self.case.words_len;
+        self.case.set_room(ample, !self.case.out[0]);
+        self.copy_case();
+        let whole = self.reading.reading(function);
+        let mut total = self.product.product_from(function, 0, 0, room);
+        while total.answer == reading::OUTPUT_SHORT && room < ample {
+            room += 1 + self.dice.below(8);
+            let rest = room.min(ample - total.written);
+            let part = self
+                .product
+                .product_from(function, total.read, total.written, rest);
+            total.answer = part.answer;
+            total.read += part.read;
+            total.written += part.written;
+        }
+        self.hold(function, total, whole);
+        self.taken_up_again += 1;
+    }
+
+    fn hold(&self, function: Function, done: Done, expected: Done) {
+        let (product, reading) = (&self.product, &self.reading);
+        let same_memory = product.out == reading.out
+            && product.table == reading.table
+            && product.words == reading.words;
+        if done == expected && same_memory {
+            return;
+        }
+        let case = &self.case;
+        let first_words = &case.words[..case.words_len.min(16)];
+        println!("DIFFERENCE in case {}, {:?}", self.cases, function);
+        println!("words: {}, first {:08X?}", case.words_len, first_words);
+        println!("records: {}, room: {}", case.table_len, case.room);
+        println!("first packet's record: {:?}", case.table[case.own()]);
+        println!("product: {:?}\nreading: {:?}", done, expected);
+        show_difference("output", &case.out, &product.out, &reading.out);
+        show_difference("record", &case.table, &product.table, &reading.table);
+        show_difference("input", &case.words, &product.words, &reading.words);
+        std::process::exit(1);
+    }
+}
+
+fn show_difference<T: PartialEq + std::fmt::Debug>(what: &str, before: &[T], a: &[T], b: &[T]) {
+    if let Some(place) = (0..a.len()).find(|place| a[*place] != b[*place]) {
+        println!("{} {}: before {:X?}", what, place, before[place]);
+        println!("  product {:X?}\n  reading {:X?}", a[place], b[place]);
+    }
+}
+
+/// Sweeps over single calls.
+impl Comparison {
+    fn single(&mut self, function: Function, packet: [u32; 4]) {
+        self.case.words.clear();
+        self.case.words.extend(packet);
+        self.case.words_len = packet.len();
+        let (room, filler) = (self.dice.below(7), self.dice.word());
+        self.case.set_room(room, filler);
+        self.compare(function);
+    }
+
+    /// Every value of bits 31 to 16 of the first word, in both directions.
+    fn every_first_word(&mut self) {
+        self.case.table.fill(empty());
+        for head in 0..0x1_0000 {
+            let mut packet = [0; 4].map(|_: u32| self.dice.word());
+            packet[0] = head << 16 | packet[0] & self.dice.pick(&[0x7F7F, 0xFFFF]);
+            self.single(Up, packet);
+            self.single(Down, packet);
+        }
+    }
+
+    /// Every pair of data bytes of every MIDI 1.0 voice, each time over another sound record.
+    fn every_midi_1_voice(&mut self) {
+        for status in 0x8..0xF {
+            for data in 0..0x1_0000 {
+                self.case.table[0x21] = sound_record(&mut self.dice);
+                self.single(Up, [0x2201_0000 | status << 20 | data, 0, 0, 0]);
+            }
+        }
+        self.case.table.fill(empty());
+    }
+
+    /// Every status and index of the MIDI 2.0 voices, over edges of the other places.
+    fn every_midi_2_voice(&mut self) {
+        for head in 0..0x1000 {
+            for low in [0, 1, 2, 127, 128, 255] {
+                let place = self.dice.word() & 0x0F0F_0000;
+                let first = 0x4000_0000 | (head & 0xF00) << 12 | (head & 0xFF) << 8 | low;
+                for value in packets::EDGE_VALUES {
+                    self.single(Down, [first | place, value, 0, 0]);
+                }
+            }
+        }
+    }
+
+    /// Records with every number at its edges, sound or not, under each sort of packet.
+    fn every_record(&mut self) {
+        const EDGES: [u8; 5] = [0, 127, 128, 254, MISSING];
+        const WORDS: [u32; 9] = [
+            0x2F9F_3C40,
+            0x2FBF_0001,
+            0x2FBF_0602,
+            0x2FBF_2603,
+            0x2FBF_6204,
+            0x2FBF_6305,
+            0x2FBF_6406,
+            0x2FBF_6507,
+            0x2FCF_0800,
+        ];
+        for kind in [0, 1, 2, 3, 255, 256, 65535] {
+            for numbers in 0..5_usize.pow(5) {
+                let number = |place: u32| EDGES[numbers / 5_usize.pow(place) % 5];
+                self.case.table[255] = Record {
+                    kind,
+                    bank_high: number(0),
+                    bank_low: number(1),
+                    address_bank: number(2),
+                    address_index: number(3),
+                    data_high: number(4),
+                };
+                for word in WORDS {
+                    self.single(Up, [word, 0, 0, 0]);
+                }
+            }
+        }
+    }
+}
+
+fn number(dice: &mut Dice) -> u8 {
+    match dice.below(4) {
+        0 => MISSING,
+        1 => 127,
+        _ => dice.below(128) as u8,
+    }
+}
+
+fn sound_record(dice: &mut Dice) -> Record {
+    let mut record = empty();
+    record.bank_high = number(dice);
+    record.bank_low = number(dice);
+    record.kind = dice.below(3) as u16;
+    if record.kind == reading::NONE {
+        return record;
+    }
+    record.address_bank = number(dice);
+    record.address_index = number(dice);
+    let address = (record.kind, record.address_bank, record.address_index);
+    let complete = address.1 != MISSING && address.2 != MISSING;
+    if complete && address != (reading::REGISTERED, 127, 127) {
+        record.data_high = number(dice);
+    }
+    record
+}
+
+/// A record that breaks the rule of soundness in one of its ways, or is any record at all.
+fn spoiled_record(dice: &mut Dice) -> Record {
+    let mut record = sound_record(dice);
+    let too_much = 128 + dice.below(127) as u8;
+    match dice.below(11) {
+        0 => record.bank_high = too_much,
+        1 => record.bank_low = too_much,
+        2 => record.address_bank = too_much,
+        3 => record.address_index = too_much,
+        4 => record.data_high = too_much,
+        5 => record.kind = dice.pick(&[3, 4, 127, 255, 256, 257, 258, 0x8000, 0xFFFF]),
+        6 => record.kind = dice.word() as u16,
+        7 => record.data_high = dice.below(128) as u8,
+        8 => record.address_bank = number(dice),
+        9 => {
+            record.kind = reading::REGISTERED;
+            record.address_bank = 127;
+            record.address_index = 127;
+            record.data_high = number(dice);
+        }
+        _ => {
+            let [a, b, c, d] = dice.word().to_le_bytes();
+            record = Record {
+                bank_low: a,
+                address_bank: b,
+                address_index: c,
+                data_high: d,
+                ..record
+            };
+        }
+    }
+    record
+}
+
+/// Records to cut tables from.
+struct Pool {
+    sound: Vec<Record>,
+    spoiled: Vec<Record>,
+}
+
+impl Pool {
+    const SIZE: usize = 8192;
+
+    fn new(dice: &mut Dice) -> Pool {
+        Pool {
+            sound: (0..Pool::SIZE).map(|_| sound_record(dice)).collect(),
+            spoiled: (0..Pool::SIZE).map(|_| spoiled_record(dice)).collect(),
+        }
+    }
+}
+
+fn cut_table(dice: &mut Dice, from: &[Record], table: &mut [Record]) {
+    let start = dice.below(from.len() - table.len());
+    table.copy_from_slice(&from[start..start + table.len()]);
+}
+
+fn throw_table(dice: &mut Dice, pool: &Pool, lent: &mut Lent) {
+    let own = lent.own();
+    let table = &mut lent.table;
+    match dice.below(8) {
+        0 | 1 => table.fill(empty()),
+        2..=4 => cut_table(dice, &pool.sound, table),
+        5 => {
+            cut_table(dice, &pool.sound, table);
+            let place = if dice.one_in(2) { own } else { dice.below(256) };
+            table[place] = dice.pick(&pool.spoiled);
+        }
+        6 => {
+            cut_table(dice, &pool.spoiled, table);
+            table[own] = dice.pick(&pool.sound);
+        }
+        _ => cut_table(dice, &pool.spoiled, table),
+    }
+    lent.table_len = 256;
+    if dice.one_in(12) {
+        lent.table_len = dice.pick(&[0, 1, 16, 100, 255, 257, 300, 511, 512]);
+    }
+}
+
+/// A stream for the function: empty, short or long; whole, cut, damaged or without any sense.
+fn throw_words(dice: &mut Dice, function: Function, lent: &mut Lent) {
+    let packets = match (function.runs(), dice.below(1000)) {
+        (false, _) => dice.below(3),
+        (true, 0) => 1000 + dice.below(4000),
+        (true, 1..=39) => 50 + dice.below(250),
+        (true, _) => dice.pick(&[0, 1, 2, 3, 5, 8, 13, 21]),
+    };
+    let voice = if function.goes_up() { 2 } else { 4 };
+    lent.words.clear();
+    for _ in 0..packets {
+        let any_type = dice.below(16) as u32;
+        let message_type = dice.pick(&[voice, any_type]);
+        let words = packet(dice, message_type);
+        lent.words.extend(&words[..size(words[0])]);
+    }
+    damage(dice, &mut lent.words);
+    lent.words_len = lent.words.len();
+    if dice.one_in(3) {
+        lent.words_len = dice.below(lent.words.len() + 1);
+    }
+    lent.words.extend([0; GUARDS].map(|_: u32| dice.word()));
+}
+
+fn damage(dice: &mut Dice, words: &mut [u32]) {
+    match dice.below(12) {
+        0 => words.iter_mut().for_each(|word| *word = dice.word()),
+        1..=3 if !words.is_empty() => {
+            for _ in 0..1 + words.len() / 8 {
+                words[dice.below(words.len())] ^= 1 << dice.below(32);
+            }
+        }
+        _ => (),
+    }
+}
+
+impl Comparison {
+    fn random(&mut self, pool: &Pool) {
+        let dice = &mut self.dice;
+        let (function, _) = FUNCTIONS[self.cases % 4];
+        throw_words(dice, function, &mut self.case);
+        throw_table(dice, pool, &mut self.case);
+        let room = match dice.below(4) {
+            0 => dice.below(5),
+            1 => dice.below(2 * self.case.words_len + 2),
+            2 => self.case.words_len,
+            _ => 2 * self.case.words_len + dice.below(5),
+        };
+        let filler = dice.word();
+        self.case.set_room(room, filler);
+        self.compare(function);
+    }
+
+    /// How often each answer was seen; fails if one that can occur was not.
+    fn summary(&self) {
+        println!("{} cases without a difference", self.cases);
+        println!(
+            "{} runs taken up again after 9 gave the whole",
+            self.taken_up_again
+        );
+        let mut complete = true;
+        for ((function, answers), seen) in FUNCTIONS.iter().zip(self.seen) {
+            let counts: Vec<_> = answers
+                .iter()
+                .map(|n| format!("{}: {}", n, seen[*n]))
+                .collect();
+            println!("{:?} answered {}", function, counts.join(", "));
+            complete &= answers.iter().all(|answer| seen[*answer] > 0);
+        }
+        if !complete {
+            println!("an answer that can occur was never seen");
+            std::process::exit(1);
+        }
+    }
+}
+
+fn product_run_up(words: &[u32], table: &mut [Record], out: &mut [u32]) -> Done {
+    let (table, table_len) = (table.as_mut_ptr(), table.len());
+    // Pointers and lengths come from slices.
+    unsafe {
+        quernbrae_run_up(
+            words.as_ptr(),
+            words.len(),
+            table,
+            table_len,
+            out.as_mut_ptr(),
+            out.len(),
+        )
+    }
+}
+
+fn compare_all(random_cases: usize) {
+    // It takes nothing and gives back a plain record.
+    let product_empty = unsafe { quernbrae_empty() };
+    assert_eq!(product_empty, empty(), "quernbrae_empty differs");
+    let mut comparison = Comparison::new();
+    comparison.every_first_word();
+    comparison.every_midi_1_voice();
+    comparison.every_midi_2_voice();
+    comparison.every_record();
+    let pool = Pool::new(&mut comparison.dice);
+    for _ in 0..random_cases {
+        comparison.random(&pool);
+    }
+    comparison.summary();
+}
+
+fn main() {
+    match std::env::args().nth(1).as_deref() {
+        Some("time") => timing::compare(product_run_up, reading::run_up),
+        Some(cases) => compare_all(cases.parse().expect("usage: harness [CASES | time]")),
+        None => compare_all(DEFAULT_CASES),
+    }
+}

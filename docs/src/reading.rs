@@ -1,0 +1,554 @@
+//! Translates streams of Universal MIDI Packets up (MIDI 1.0 to MIDI 2.0) and down.
+//! Read from the build specification and M2-104-UM 1.1.1, sections 7.2 to 7.7 and Appendix D.
+
+#[cfg(test)]
+#[path = "reading_tests.rs"]
+mod tests;
+
+// The answers of a call, by their numbers in the build specification.
+pub const SENT: u32 = 0;
+pub const TAKEN_IN: u32 = 1;
+pub const NO_MIDI_1_FORM: u32 = 2;
+pub const CUT: u32 = 3;
+pub const RESERVED_TYPE: u32 = 4;
+pub const WRONG_PROTOCOL: u32 = 5;
+pub const BAD_STATUS: u32 = 6;
+pub const BAD_DATA: u32 = 7;
+pub const NOT_SOUND: u32 = 8;
+pub const OUTPUT_SHORT: u32 = 9;
+pub const NOT_256_RECORDS: u32 = 10;
+
+/// The number of a record that is not there.
+pub const MISSING: u8 = 255;
+
+// The address kinds of a record.
+pub const NONE: u16 = 0;
+pub const REGISTERED: u16 = 1;
+pub const ASSIGNABLE: u16 = 2;
+
+/// What is remembered of one channel of one group between two packets.
+#[repr(C)]
+#[derive(Clone, Copy, Debug, PartialEq, Eq)]
+pub struct Record {
+    pub kind: u16,
+    pub bank_high: u8,
+    pub bank_low: u8,
+    pub address_bank: u8,
+    pub address_index: u8,
+    pub data_high: u8,
+}
+
+/// The answer of a call or of a run, and the words it read and wrote.
+#[repr(C)]
+#[derive(Clone, Copy, Debug, PartialEq, Eq)]
+pub struct Done {
+    pub answer: u32,
+    pub read: usize,
+    pub written: usize,
+}
+
+/// The record of a channel that nothing has been heard of.
+pub fn empty() -> Record {
+    Record {
+        kind: NONE,
+        bank_high: MISSING,
+        bank_low: MISSING,
+        address_bank: MISSING,
+        address_index: MISSING,
+        data_high: MISSING,
+    }
+}
+
+impl Record {
+    fn sound(&self) -> bool {
+        let address = match self.kind {
+            NONE => [self.address_bank, self.address_index, self.data_high] == [MISSING; 3],
+            REGISTERED | ASSIGNABLE => self.data_high == MISSING || self.takes_data(),
+            _ => false,
+        };
+        address
+            && sound_number(self.bank_high)
+            && sound_number(self.bank_low)
+            && sound_number(self.address_bank)
+            && sound_number(self.address_index)
+            && sound_number(self.data_high)
+    }
+
+    /// Both address halves are present and are not the null address.
+    fn takes_data(&self) -> bool {
+        self.address_bank != MISSING
+            && self.address_index != MISSING
+            && !(self.kind == REGISTERED && null(self.address_bank, self.address_index))
+    }
+
+    /// Makes ready for a new address half; a half of the other kind is not kept.
+    fn begin_address(&mut self, kind: u16) {
+        if self.kind != kind {
+            self.kind = kind;
+            self.address_bank = MISSING;
+            self.address_index = MISSING;
+        }
+        self.data_high = MISSING;
+    }
+
+    fn set_address_bank(&mut self, kind: u16, value: u8) {
+        self.begin_address(kind);
+        self.address_bank = value;
+    }
+
+    fn set_address_index(&mut self, kind: u16, value: u8) {
+        self.begin_address(kind);
+        self.address_index = value;
+    }
+}
+
+fn sound_number(number: u8) -> bool {
+    number <= 127 || number == MISSING
+}
+
+/// The null address, if registered; an assignable 127/127 is an ordinary address.
+fn null(bank: u8, index: u8) -> bool {
+    bank == 127 && index == 127
+}
+
+const SIZES: [usize; 16] = [1, 1, 1, 2, 2, 4, 1, 1, 2, 2, 2, 3, 3, 4, 4, 4];
+
+/// The size in words of the packet that begins with this word.
+pub fn size(word: u32) -> usize {
+    SIZES[(word >> 28) as usize]
+}
+
+/// Min-Center-Max scaling of 004 D.1.3, here for every value.
+#[inline(always)]
+const fn scale_up(value: u32, source_bits: u32, target_bits: u32) -> u32 {
+    let mut empty_bits = target_bits - source_bits;
+    let repeat_bits = source_bits - 1;
+    let mut scaled = value << empty_bits;
+    if value > 1 << repeat_bits {
+        let repeated = value & ((1 << repeat_bits) - 1);
+        while empty_bits > repeat_bits {
+            empty_bits -= repeat_bits;
+            scaled |= repeated << empty_bits;
+        }
+        scaled |= repeated >> (repeat_bits - empty_bits);
+    }
+    scaled
+}
+
+const fn every_7_bit_value(target_bits: u32) -> [u32; 128] {
+    let mut scaled = [0; 128];
+    let mut value = 0;
+    while value < 128 {
+        scaled[value] = scale_up(value as u32, 7, target_bits);
+        value += 1;
+    }
+    scaled
+}
+
+static SCALED_7_TO_16: [u32; 128] = every_7_bit_value(16);
+static SCALED_7_TO_32: [u32; 128] = every_7_bit_value(32);
+
+fn stopped(answer: u32) -> Done {
+    Done {
+        answer,
+        read: 0,
+        written: 0,
+    }
+}
+
+fn refused(answer: u32, read: usize) -> Done {
+    Done {
+        answer,
+        read,
+        written: 0,
+    }
+}
+
+/// Sends the words that a packet of `read` words becomes.
+#[inline(always)]
+fn send<const COUNT: usize>(read: usize, words: [u32; COUNT], out: &mut [u32]) -> Done {
+    match out.get_mut(..COUNT) {
+        Some(place) => place.copy_from_slice(&words),
+        None => return stopped(OUTPUT_SHORT),
+    }
+    Done {
+        answer: SENT,
+        read,
+        written: COUNT,
+    }
+}
+
+fn high_byte(word: u32) -> u8 {
+    (word >> 8) as u8
+}
+
+fn low_byte(word: u32) -> u8 {
+    word as u8
+}
+
+/// Answers for every type but 2 and 4, on which both directions agree, and for whatever is cut.
+#[inline(always)]
+fn other_type(words: &[u32], out: &mut [u32]) -> Done {
+    let size = words.first().map_or(0, |word| size(*word));
+    match (size, words) {
+        (1, &[word, ..]) => unchanged(check_one_word(word), [word], out),
+        (2, &[first, second, ..]) => {
+            unchanged(check_two_words(first, second), [first, second], out)
+        }
+        (3, [_, _, _, ..]) => refused(RESERVED_TYPE, 3),
+        (4, &[first, second, third, fourth, ..]) => {
+            unchanged(check_four_words(first), [first, second, third, fourth], out)
+        }
+        _ => stopped(CUT),
+    }
+}
+
+#[inline(always)]
+fn unchanged<const COUNT: usize>(answer: u32, packet: [u32; COUNT], out: &mut [u32]) -> Done {
+    if answer == SENT {
+        send(COUNT, packet, out)
+    } else {
+        refused(answer, COUNT)
+    }
+}
+
+fn check_one_word(word: u32) -> u32 {
+    match word >> 28 {
+        0 if word >> 20 & 15 <= 4 => SENT,
+        0 => BAD_STATUS,
+        1 => check_system(word),
+        _ => RESERVED_TYPE,
+    }
+}
+
+fn check_system(word: u32) -> u32 {
+    let data_bits = match word >> 16 & 255 {
+        0xF1 | 0xF3 => 0x8000,
+        0xF2 => 0x8080,
+        0xF6 | 0xF8 | 0xFA | 0xFB | 0xFC | 0xFE | 0xFF => 0,
+        _ => return BAD_STATUS,
+    };
+    if word & data_bits == 0 {
+        SENT
+    } else {
+        BAD_DATA
+    }
+}
+
+fn check_two_words(first: u32, second: u32) -> u32 {
+    if first >> 28 != 3 {
+        return RESERVED_TYPE;
+    }
+    if first >> 20 & 15 > 3 {
+        return BAD_STATUS;
+    }
+    let count = first >> 16 & 15;
+    if count > 6 {
+        return BAD_DATA;
+    }
+    // The payload stands at the top, so the first `count` bytes are the upper ones.
+    let payload = u64::from(first & 0xFFFF) << 48 | u64::from(second) << 16;
+    let counted = !(u64::MAX >> (8 * count));
+    if payload & counted & 0x8080_8080_8080_8080 == 0 {
+        SENT
+    } else {
+        BAD_DATA
+    }
+}
+
+fn check_four_words(first: u32) -> u32 {
+    match first >> 28 {
+        0x5 | 0xD | 0xF => SENT,
+        _ => RESERVED_TYPE,
+    }
+}
+
+/// The place of a packet's own record: 16 times group plus channel.
+fn record_number(word: u32) -> usize {
+    (word >> 20 & 0xF0 | word >> 16 & 0x0F) as usize
+}
+
+/// The first word of a MIDI 2.0 message in the group and channel of `word`.
+fn midi_2_word(word: u32, status: u32, index: u32) -> u32 {
+    0x4000_0000 | word & 0x0F0F_0000 | status << 20 | index
+}
+
+fn whole_table(table: &mut [Record]) -> Option<&mut [Record; 256]> {
+    table.try_into().ok()
+}
+
+/// Treats the packet at the start of the words, going up.
+pub fn up(words: &[u32], table: &mut [Record], out: &mut [u32]) -> Done {
+    match whole_table(table) {
+        Some(table) => up_packet(words, table, out),
+        None => stopped(NOT_256_RECORDS),
+    }
+}
+
+/// Treats packet after packet, going up.
+pub fn run_up(words: &[u32], table: &mut [Record], out: &mut [u32]) -> Done {
+    match whole_table(table) {
+        Some(table) => run(words, out, |words, out| up_packet(words, table, out)),
+        None => stopped(NOT_256_RECORDS),
+    }
+}
+
+/// Treats the packet at the start of the words, going down.
+pub fn down(words: &[u32], out: &mut [u32]) -> Done {
+    down_packet(words, out)
+}
+
+/// Treats packet after packet, going down.
+pub fn run_down(words: &[u32], out: &mut [u32]) -> Done {
+    run(words, out, down_packet)
+}
+
+#[inline(always)]
+fn run(words: &[u32], out: &mut [u32], mut call: impl FnMut(&[u32], &mut [u32]) -> Done) -> Done {
+    let mut total = Done {
+        answer: SENT,
+        read: 0,
+        written: 0,
+    };
+    while total.read < words.len() {
+        let one = call(&words[total.read..], &mut out[total.written..]);
+        total.read += one.read;
+        total.written += one.written;
+        if let CUT | NOT_SOUND | OUTPUT_SHORT = one.answer {
+            total.answer = one.answer;
+            break;
+        }
+    }
+    total
+}
+
+#[inline(always)]
+fn up_packet(words: &[u32], table: &mut [Record; 256], out: &mut [u32]) -> Done {
+    match *words {
+        [word, ..] if word >> 28 == 2 => up_voice(word, &mut table[record_number(word)], out),
+        [word, _, ..] if word >> 28 == 4 => refused(WRONG_PROTOCOL, 2),
+        _ => other_type(words, out),
+    }
+}
+
+#[inline(always)]
+fn up_voice(word: u32, record: &mut Record, out: &mut [u32]) -> Done {
+    let status = word >> 20 & 15;
+    let data_bits = match status {
+        0x8..=0xB | 0xE => 0x8080,
+        0xC | 0xD => 0x8000,
+        _ => return refused(BAD_STATUS, 1),
+    };
+    if word & data_bits != 0 {
+        return refused(BAD_DATA, 1);
+    }
+    if !record.sound() {
+        return stopped(NOT_SOUND);
+    }
+    let same = word & 0x0FFF_0000 | 0x4000_0000;
+    let (first, second) = (word >> 8 & 127, word & 127);
+    match status {
+        0x8 | 0x9 => up_note(word, out),
+        0xA => send(1, [same | first << 8, SCALED_7_TO_32[second as usize]], out),
+        0xB => up_control_change(word, record, out),
+        0xC => up_program_change(word, record, out),
+        0xD => send(1, [same, SCALED_7_TO_32[first as usize]], out),
+        _ => send(1, [same, scale_up(second << 7 | first, 14, 32)], out),
+    }
+}
+
+#[inline(always)]
+fn up_note(word: u32, out: &mut [u32]) -> Done {
+    let velocity = word & 127;
+    let status = if velocity == 0 { 0x8 } else { word >> 20 & 15 };
+    let scaled = SCALED_7_TO_16[velocity as usize];
+    send(
+        1,
+        [midi_2_word(word, status, word & 0x7F00), scaled << 16],
+        out,
+    )
+}
+
+#[inline(always)]
+fn up_control_change(word: u32, record: &mut Record, out: &mut [u32]) -> Done {
+    let value = low_byte(word);
+    match high_byte(word) {
+        0 => record.bank_high = value,
+        32 => record.bank_low = value,
+        101 => record.set_address_bank(REGISTERED, value),
+        100 => record.set_address_index(REGISTERED, value),
+        99 => record.set_address_bank(ASSIGNABLE, value),
+        98 => record.set_address_index(ASSIGNABLE, value),
+        6 if record.takes_data() => record.data_high = value,
+        38 if record.data_high != MISSING => return up_data(word, record, out),
+        6 | 38 | 96 | 97 => (),
+        index => {
+            let first = midi_2_word(word, 0xB, u32::from(index) << 8);
+            return send(1, [first, SCALED_7_TO_32[(word & 127) as usize]], out);
+        }
+    }
+    refused(TAKEN_IN, 1)
+}
+
+/// The registered or assignable controller that data low completes.
+fn up_data(word: u32, record: &Record, out: &mut [u32]) -> Done {
+    let status = if record.kind == REGISTERED { 0x2 } else { 0x3 };
+    let index = u32::from(record.address_bank) << 8 | u32::from(record.address_index);
+    let value = u32::from(record.data_high) << 7 | word & 127;
+    send(
+        1,
+        [midi_2_word(word, status, index), scale_up(value, 14, 32)],
+        out,
+    )
+}
+
+/// A bank goes out once, with the first program change after it.
+fn up_program_change(word: u32, record: &mut Record, out: &mut [u32]) -> Done {
+    let (high, low) = (record.bank_high, record.bank_low);
+    let (flag, bank) = if high != MISSING && low != MISSING {
+        (1, u32::from(high) << 8 | u32::from(low))
+    } else {
+        (0, 0)
+    };
+    let program = word >> 8 & 127;
+    let done = send(1, [midi_2_word(word, 0xC, flag), program << 24 | bank], out);
+    if done.answer == SENT {
+        record.bank_high = MISSING;
+        record.bank_low = MISSING;
+    }
+    done
+}
+
+#[inline(always)]
+fn down_packet(words: &[u32], out: &mut [u32]) -> Done {
+    match *words {
+        [word, ..] if word >> 28 == 2 => refused(WRONG_PROTOCOL, 1),
+        [first, second, ..] if first >> 28 == 4 => down_voice(first, second, out),
+        _ => other_type(words, out),
+    }
+}
+
+/// A MIDI 1.0 message in the group and channel of `word`.
+fn midi_1_word(word: u32, status: u32, data_1: u32, data_2: u32) -> u32 {
+    0x2000_0000 | word & 0x0F0F_0000 | status << 20 | data_1 << 8 | data_2
+}
+
+#[inline(always)]
+fn down_voice(first: u32, second: u32, out: &mut [u32]) -> Done {
+    let status = first >> 20 & 15;
+    if status == 7 {
+        return refused(BAD_STATUS, 2);
+    }
+    if !data_in_range(first, second) {
+        return refused(BAD_DATA, 2);
+    }
+    let index = first >> 8 & 127;
+    let (high_7, high_14) = (second >> 25, second >> 18);
+    match status {
+        0x2 if null(high_byte(first), low_byte(first)) => refused(NO_MIDI_1_FORM, 2),
+        0x2 => down_controller(first, high_14, [101, 100], out),
+        0x3 => down_controller(first, high_14, [99, 98], out),
+        0x8 | 0xA => send(2, [midi_1_word(first, status, index, high_7)], out),
+        0x9 => send(2, [midi_1_word(first, 0x9, index, high_7.max(1))], out),
+        0xB => down_control_change(first, index, high_7, out),
+        0xC => down_program_change(first, second, out),
+        0xD => send(2, [midi_1_word(first, 0xD, high_7, 0)], out),
+        0xE => send(
+            2,
+            [midi_1_word(first, 0xE, high_14 & 127, high_14 >> 7)],
+            out,
+        ),
+        _ => refused(NO_MIDI_1_FORM, 2),
+    }
+}
+
+fn data_in_range(first: u32, second: u32) -> bool {
+    match first >> 20 & 15 {
+        0x0 | 0x1 | 0x6 | 0x8..=0xB | 0xF => first & 0x8000 == 0,
+        0x2..=0x5 => first & 0x8080 == 0,
+        0xC if first & 1 == 1 => second & 0x8000_8080 == 0,
+        0xC => second & 0x8000_0000 == 0,
+        _ => true,
+    }
+}
+
+fn down_controller(first: u32, value: u32, address: [u32; 2], out: &mut [u32]) -> Done {
+    let control = |index, value| midi_1_word(first, 0xB, index, value);
+    let words = [
+        control(address[0], first >> 8 & 127),
+        control(address[1], first & 127),
+        control(6, value >> 7),
+        control(38, value & 127),
+    ];
+    send(2, words, out)
+}
+
+fn down_control_change(first: u32, index: u32, value: u32, out: &mut [u32]) -> Done {
+    match index {
+        0 | 6 | 32 | 38 | 96..=101 => refused(NO_MIDI_1_FORM, 2),
+        _ => send(2, [midi_1_word(first, 0xB, index, value)], out),
+    }
+}
+
+fn down_program_change(first: u32, second: u32, out: &mut [u32]) -> Done {
+    let program = midi_1_word(first, 0xC, second >> 24, 0);
+    if first & 1 == 0 {
+        return send(2, [program], out);
+    }
+    let bank_high = midi_1_word(first, 0xB, 0, second >> 8 & 127);
+    let bank_low = midi_1_word(first, 0xB, 32, second & 127);
+    send(2, [bank_high, bank_low, program], out)
+}
+
+/// The text of the listing program for this standard input.
+pub fn listing(bytes: &[u8]) -> Vec<u8> {
+    let words = words_of(bytes);
+    let mut table = [empty(); 256];
+    let mut text = String::new();
+    let mut place = 0;
+    while place < words.len() {
+        let mut out = [0; 4];
+        let done = up(&words[place..], &mut table, &mut out);
+        if done.answer == CUT {
+            break;
+        }
+        text += &format!("{} {}", done.answer, done.read);
+        for word in &out[..done.written] {
+            text += &format!(" {:08X}", word);
+        }
+        text.push('\n');
+        place += done.read;
+    }
+    if 4 * place < bytes.len() {
+        text += "3 0\n";
+    }
+    text.into_bytes()
+}
+
+/// The standard output of the upward filter for this standard input.
+pub fn up_filter(bytes: &[u8]) -> Vec<u8> {
+    let mut table = [empty(); 256];
+    filter(bytes, |words, out| run_up(words, &mut table, out))
+}
+
+/// The standard output of the downward filter for this standard input.
+pub fn down_filter(bytes: &[u8]) -> Vec<u8> {
+    filter(bytes, run_down)
+}
+
+fn filter(bytes: &[u8], call: impl FnOnce(&[u32], &mut [u32]) -> Done) -> Vec<u8> {
+    let words = words_of(bytes);
+    // No packet becomes more than twice its own words.
+    let mut out = vec![0; 2 * words.len()];
+    let done = call(&words, &mut out);
+    let sent = out[..done.written].iter();
+    sent.flat_map(|word| word.to_be_bytes()).collect()
+}
+
+/// The whole big-endian words; one to three left-over bytes are no word.
+fn words_of(bytes: &[u8]) -> Vec<u32> {
+    let whole = bytes.chunks_exact(4);
+    whole
+        .map(|four| u32::from_be_bytes([four[0], four[1], four[2], four[3]]))
+        .collect()
+}

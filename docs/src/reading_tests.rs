@@ -1,0 +1,815 @@
+use super::*;
+
+const UNTOUCHED: u32 = 0xAAAA_AAAA;
+
+fn fresh() -> [Record; 256] {
+    [empty(); 256]
+}
+
+/// One call with room for six words: the answer, the words read and the words sent.
+fn called(call: impl FnOnce(&mut [u32]) -> Done) -> (u32, usize, Vec<u32>) {
+    let mut out = [UNTOUCHED; 6];
+    let done = call(&mut out);
+    assert!(out[done.written..].iter().all(|word| *word == UNTOUCHED));
+    (done.answer, done.read, out[..done.written].to_vec())
+}
+
+fn up_with(table: &mut [Record], words: &[u32]) -> (u32, usize, Vec<u32>) {
+    called(|out| up(words, table, out))
+}
+
+/// One call up with a fresh table, which no refusal may change.
+fn up_fresh(words: &[u32]) -> (u32, usize, Vec<u32>) {
+    let mut table = fresh();
+    let result = up_with(&mut table, words);
+    assert!(result.0 <= TAKEN_IN || table == fresh());
+    result
+}
+
+fn down_one(words: &[u32]) -> (u32, usize, Vec<u32>) {
+    called(|out| down(words, out))
+}
+
+fn sent(read: usize, words: &[u32]) -> (u32, usize, Vec<u32>) {
+    (SENT, read, words.to_vec())
+}
+
+fn nothing(answer: u32, read: usize) -> (u32, usize, Vec<u32>) {
+    (answer, read, vec![])
+}
+
+/// The answers of single calls up over one table, with all the words they sent.
+fn up_all(table: &mut [Record], words: &[u32]) -> (Vec<u32>, Vec<u32>) {
+    let calls = words.iter().map(|word| up_with(table, &[*word]));
+    let (answers, words): (Vec<_>, Vec<_>) = calls.map(|call| (call.0, call.2)).unzip();
+    (answers, words.concat())
+}
+
+fn record(kind: u16, numbers: [u8; 5]) -> Record {
+    let [bank_high, bank_low, address_bank, address_index, data_high] = numbers;
+    Record {
+        kind,
+        bank_high,
+        bank_low,
+        address_bank,
+        address_index,
+        data_high,
+    }
+}
+
+const M: u8 = MISSING;
+
+#[test]
+fn examples_of_scaling() {
+    let to_16 = [
+        (63, 0x7E00),
+        (64, 0x8000),
+        (65, 0x8208),
+        (100, 0xC924),
+        (127, 0xFFFF),
+    ];
+    for (value, scaled) in to_16 {
+        assert_eq!(scale_up(value, 7, 16), scaled);
+    }
+    for (value, scaled) in [(1, 0x0200), (10, 0x1400), (64, 0x8000), (87, 0xAEBA)] {
+        assert_eq!(scale_up(value, 7, 16), scaled);
+    }
+    for (value, scaled) in [(65, 0x8208_2082), (127, 0xFFFF_FFFF)] {
+        assert_eq!(scale_up(value, 7, 32), scaled);
+        assert_eq!(SCALED_7_TO_32[value as usize], scaled);
+    }
+    for (value, scaled) in [(1, 0x0004_0000), (8192, 0x8000_0000), (8193, 0x8004_0020)] {
+        assert_eq!(scale_up(value, 14, 32), scaled);
+    }
+}
+
+/// The code of 004 D.1.3, line by line.
+fn scale_up_of_004(value: u32, source_bits: u32, target_bits: u32) -> u32 {
+    let scale_bits = target_bits - source_bits;
+    let mut shifted = value << scale_bits;
+    if value <= 1 << (source_bits - 1) {
+        return shifted;
+    }
+    let repeat_bits = source_bits - 1;
+    let mut repeat = value & ((1 << repeat_bits) - 1);
+    if scale_bits > repeat_bits {
+        repeat <<= scale_bits - repeat_bits;
+    } else {
+        repeat >>= repeat_bits - scale_bits;
+    }
+    while repeat != 0 {
+        shifted |= repeat;
+        repeat >>= repeat_bits;
+    }
+    shifted
+}
+
+#[test]
+fn every_value_scales_as_004_writes_it() {
+    for (source_bits, target_bits) in [(7, 16), (7, 32), (14, 32), (7, 8), (2, 32), (16, 32)] {
+        for value in 0..1 << source_bits {
+            let scaled = scale_up(value, source_bits, target_bits);
+            assert_eq!(scaled, scale_up_of_004(value, source_bits, target_bits));
+            assert_eq!(scaled >> (target_bits - source_bits), value);
+        }
+    }
+    for value in 0..128 {
+        assert_eq!(SCALED_7_TO_16[value as usize], scale_up(value, 7, 16));
+        assert_eq!(SCALED_7_TO_32[value as usize], scale_up(value, 7, 32));
+    }
+}
+
+#[test]
+fn examples_of_notes_up() {
+    assert_eq!(up_fresh(&[0x20903C41]), sent(1, &[0x40903C00, 0x82080000]));
+    assert_eq!(up_fresh(&[0x20903C00]), sent(1, &[0x40803C00, 0]));
+}
+
+#[test]
+fn example_of_a_bank_up() {
+    let mut table = fresh();
+    let (answers, words) = up_all(
+        &mut table,
+        &[0x20B00001, 0x20B02002, 0x20C00500, 0x20C00500],
+    );
+    assert_eq!(answers, [1, 1, 0, 0]);
+    assert_eq!(words, [0x40C00001, 0x05000102, 0x40C00000, 0x05000000]);
+    assert_eq!(table, fresh());
+}
+
+#[test]
+fn example_of_a_registered_controller_up() {
+    let mut table = fresh();
+    let stream = [0x20B06500, 0x20B06400, 0x20B00602, 0x20B02600, 0x20B02601];
+    let (answers, words) = up_all(&mut table, &stream);
+    assert_eq!(answers, [1, 1, 1, 0, 0]);
+    assert_eq!(words, [0x40200000, 0x04000000, 0x40200000, 0x04040000]);
+    assert_eq!(table[0], record(REGISTERED, [M, M, 0, 0, 2]));
+}
+
+#[test]
+fn examples_down_and_of_refusals() {
+    assert_eq!(down_one(&[0x40903C00, 0x01FF0000]), sent(2, &[0x20903C01]));
+    assert_eq!(up_fresh(&[0x20903C80]), nothing(7, 1));
+    assert_eq!(up_fresh(&[0x20700000]), nothing(6, 1));
+    assert_eq!(up_fresh(&[0xB0000000, 0]), nothing(3, 0));
+    assert_eq!(up_fresh(&[0xB0000000, 0, 0]), nothing(4, 3));
+}
+
+fn bytes_of(words: &[u32]) -> Vec<u8> {
+    words.iter().flat_map(|word| word.to_be_bytes()).collect()
+}
+
+#[test]
+fn listings() {
+    let mut bytes = bytes_of(&[0x20903C40, 0x20B00001, 0x60000000]);
+    let whole = "0 1 40903C00 80000000\n1 1\n4 1\n";
+    let text = |bytes: &[u8]| String::from_utf8(listing(bytes)).unwrap();
+    assert_eq!(text(&[]), "");
+    assert_eq!(text(&bytes), whole);
+    for left_over in 1..4 {
+        bytes.push(left_over);
+        assert_eq!(text(&bytes), format!("{}3 0\n", whole));
+    }
+    assert_eq!(text(&bytes_of(&[0x50000000, 1, 2])), "3 0\n");
+    assert_eq!(text(&[0x50, 0, 0, 0, 1, 2, 3, 4, 5]), "3 0\n");
+    assert_eq!(
+        text(&bytes_of(&[0xF123ABCD, 1, 2, 3])),
+        "0 4 F123ABCD 00000001 00000002 00000003\n"
+    );
+}
+
+#[test]
+fn filters_send_nothing_for_a_cut_end() {
+    let mut up_bytes = bytes_of(&[0x20903C41, 0x20700000, 0x31020102, 5]);
+    let up_sent = bytes_of(&[0x40903C00, 0x82080000, 0x31020102, 5]);
+    let mut down_bytes = bytes_of(&[0x40903C00, 0x01FF0000, 0x40600000, 0]);
+    let down_sent = bytes_of(&[0x20903C01]);
+    assert_eq!(up_filter(&[]), []);
+    for end in [&[][..], &[0xF0, 0, 0], &[0xF0, 0, 0, 0, 1, 2]] {
+        up_bytes.extend(end);
+        down_bytes.extend(end);
+        assert_eq!(up_filter(&up_bytes), up_sent);
+        assert_eq!(down_filter(&down_bytes), down_sent);
+        up_bytes.truncate(16);
+        down_bytes.truncate(16);
+    }
+}
+
+/// What both directions answer for a packet that is not channel voice.
+fn either_way(words: &[u32]) -> (u32, usize, Vec<u32>) {
+    let answer = up_fresh(words);
+    assert_eq!(down_one(words), answer);
+    answer
+}
+
+#[test]
+fn sizes_and_cut_packets_of_every_type() {
+    let sizes = [1, 1, 1, 2, 2, 4, 1, 1, 2, 2, 2, 3, 3, 4, 4, 4];
+    for (message_type, whole) in (0..16).zip(sizes) {
+        let packet = [message_type << 28 | 0x0080_0000, 0, 0, 0, 0];
+        assert_eq!(size(packet[0]), whole);
+        for left in 0..whole {
+            assert_eq!(either_way(&packet[..left]), nothing(CUT, 0));
+        }
+        assert_ne!(up_fresh(&packet[..whole]).0, CUT);
+        assert_eq!(up_fresh(&packet[..whole]).1, whole);
+        assert_ne!(down_one(&packet[..whole]).0, CUT);
+        assert_eq!(down_one(&packet).1, whole);
+    }
+}
+
+#[test]
+fn reserved_and_unread_types() {
+    for message_type in [0x6, 0x7, 0x8, 0x9, 0xA, 0xB, 0xC, 0xE] {
+        let packet = [
+            message_type << 28 | 0x0FFF_FFFF,
+            u32::MAX,
+            u32::MAX,
+            u32::MAX,
+        ];
+        assert_eq!(either_way(&packet), nothing(RESERVED_TYPE, size(packet[0])));
+    }
+    for message_type in [0x5, 0xD, 0xF] {
+        let packet = [message_type << 28 | 0x0FFF_FFFF, u32::MAX, 7, 0x8080_8080];
+        assert_eq!(either_way(&packet), sent(4, &packet));
+    }
+}
+
+#[test]
+fn utility_messages() {
+    for status in 0..16 {
+        let word = status << 20 | 0x0F0F_FFFF;
+        let expected = if status <= 4 {
+            sent(1, &[word])
+        } else {
+            nothing(BAD_STATUS, 1)
+        };
+        assert_eq!(either_way(&[word]), expected);
+    }
+}
+
+#[test]
+fn system_messages() {
+    for status in 0..256 {
+        let data_bytes = match status {
+            0xF1 | 0xF3 => 1,
+            0xF2 => 2,
+            0xF6 | 0xF8 | 0xFA | 0xFB | 0xFC | 0xFE | 0xFF => 0,
+            _ => 3,
+        };
+        for data in [0x0000, 0x7F7F, 0x7F80, 0x807F, 0xFFFF] {
+            let word = 0x1A00_0000 | status << 16 | data;
+            let expected = match data_bytes {
+                3 => nothing(BAD_STATUS, 1),
+                1 if data > 0x7FFF => nothing(BAD_DATA, 1),
+                2 if data > 0x7FFF || data & 0xFF > 0x7F => nothing(BAD_DATA, 1),
+                _ => sent(1, &[word]),
+            };
+            assert_eq!(either_way(&[word]), expected);
+        }
+    }
+}
+
+#[test]
+fn exclusive_messages() {
+    for status in 0..16 {
+        for count in 0..16 {
+            for bad_byte in 0..7 {
+                let payload: u64 = 0x7F7F_7F7F_7F7F | 0x8000_0000_0000 >> (8 * bad_byte);
+                let first = 0x3500_0000 | status << 20 | count << 16 | (payload >> 32) as u32;
+                let packet = [first, payload as u32];
+                let expected = match () {
+                    _ if status > 3 => nothing(BAD_STATUS, 2),
+                    _ if count > 6 => nothing(BAD_DATA, 2),
+                    _ if bad_byte < count && bad_byte < 6 => nothing(BAD_DATA, 2),
+                    _ => sent(2, &packet),
+                };
+                assert_eq!(either_way(&packet), expected, "{:08X?}", packet);
+            }
+        }
+    }
+}
+
+#[test]
+fn wrong_protocol_comes_before_status_and_data() {
+    for status in 0..16 {
+        let up_packet = [0x4000_FFFF | status << 20, u32::MAX];
+        assert_eq!(up_fresh(&up_packet), nothing(WRONG_PROTOCOL, 2));
+        assert_eq!(
+            down_one(&[0x2000_FFFF | status << 20]),
+            nothing(WRONG_PROTOCOL, 1)
+        );
+    }
+}
+
+#[test]
+fn status_and_data_of_midi_1_voices() {
+    for status in 0..16 {
+        for (data, first_bad, second_bad) in [
+            (0x0180, false, true),
+            (0x8001, true, false),
+            (0x8080, true, true),
+        ] {
+            let word = 0x2000_0000 | status << 20 | data;
+            let one_byte = status == 0xC || status == 0xD;
+            let expected = match status {
+                0..=7 | 0xF => BAD_STATUS,
+                _ if first_bad || second_bad && !one_byte => BAD_DATA,
+                _ => SENT,
+            };
+            let (answer, read, words) = up_fresh(&[word]);
+            assert_eq!(
+                (answer, read, words.len()),
+                (expected, 1, if one_byte && !first_bad { 2 } else { 0 })
+            );
+        }
+    }
+}
+
+#[test]
+fn voices_up() {
+    let cases = [
+        (0x2F8E7F00, [0x4F8E7F00, 0x00000000]),
+        (0x2F8E7F7F, [0x4F8E7F00, 0xFFFF0000]),
+        (0x2F9E0001, [0x4F9E0000, 0x02000000]),
+        (0x23A50741, [0x43A50700, 0x82082082]),
+        (0x23B50741, [0x43B50700, 0x82082082]),
+        (0x23C57FFF, [0x43C50000, 0x7F000000]),
+        (0x23D541FF, [0x43D50000, 0x82082082]),
+        (0x23E50100, [0x43E50000, 0x00040000]),
+        (0x23E50040, [0x43E50000, 0x80000000]),
+        (0x23E50140, [0x43E50000, 0x80040020]),
+        (0x23E57F7F, [0x43E50000, 0xFFFFFFFF]),
+    ];
+    for (word, words) in cases {
+        assert_eq!(up_fresh(&[word, 0x60000000]), sent(1, &words));
+    }
+}
+
+#[test]
+fn every_control_change_up_from_a_fresh_record() {
+    for index in 0..128_u32 {
+        let mut table = fresh();
+        let result = up_with(&mut table, &[0x25BA0041 | index << 8]);
+        let changed = match index {
+            0 => Some(record(NONE, [0x41, M, M, M, M])),
+            32 => Some(record(NONE, [M, 0x41, M, M, M])),
+            98 => Some(record(ASSIGNABLE, [M, M, M, 0x41, M])),
+            99 => Some(record(ASSIGNABLE, [M, M, 0x41, M, M])),
+            100 => Some(record(REGISTERED, [M, M, M, 0x41, M])),
+            101 => Some(record(REGISTERED, [M, M, 0x41, M, M])),
+            6 | 38 | 96 | 97 => Some(empty()),
+            _ => None,
+        };
+        match changed {
+            Some(_) => assert_eq!(result, nothing(TAKEN_IN, 1)),
+            None => assert_eq!(result, sent(1, &[0x45BA0000 | index << 8, 0x82082082])),
+        }
+        let mut expected = fresh();
+        expected[0x5A] = changed.unwrap_or(empty());
+        assert_eq!(table, expected);
+    }
+}
+
+#[test]
+fn every_control_change_up_from_a_full_record() {
+    for index in 0..128_u32 {
+        let mut table = fresh();
+        let full = [1, 2, 3, 4, 5];
+        table[0x5A] = record(ASSIGNABLE, full);
+        let result = up_with(&mut table, &[0x25BA0041 | index << 8]);
+        let (changed, taken_in) = match index {
+            0 => (record(ASSIGNABLE, [0x41, 2, 3, 4, 5]), true),
+            32 => (record(ASSIGNABLE, [1, 0x41, 3, 4, 5]), true),
+            98 => (record(ASSIGNABLE, [1, 2, 3, 0x41, M]), true),
+            99 => (record(ASSIGNABLE, [1, 2, 0x41, 4, M]), true),
+            100 => (record(REGISTERED, [1, 2, M, 0x41, M]), true),
+            101 => (record(REGISTERED, [1, 2, 0x41, M, M]), true),
+            6 => (record(ASSIGNABLE, [1, 2, 3, 4, 0x41]), true),
+            96 | 97 => (record(ASSIGNABLE, full), true),
+            _ => (record(ASSIGNABLE, full), false),
+        };
+        let plain = sent(1, &[0x45BA0000 | index << 8, 0x82082082]);
+        match index {
+            38 => assert_eq!(
+                result,
+                sent(1, &[0x453A0304, scale_up(5 * 128 + 0x41, 14, 32)])
+            ),
+            _ if taken_in => assert_eq!(result, nothing(TAKEN_IN, 1)),
+            _ => assert_eq!(result, plain),
+        }
+        assert_eq!(table[0x5A], changed);
+    }
+}
+
+#[test]
+fn data_high_needs_a_complete_address_that_is_not_null() {
+    let cases = [
+        (record(NONE, [M, M, M, M, M]), false),
+        (record(REGISTERED, [M, M, 3, M, M]), false),
+        (record(ASSIGNABLE, [M, M, M, 3, M]), false),
+        (record(REGISTERED, [M, M, 127, 127, M]), false),
+        (record(REGISTERED, [M, M, 127, 126, M]), true),
+        (record(REGISTERED, [M, M, 126, 127, M]), true),
+        (record(ASSIGNABLE, [M, M, 127, 127, M]), true),
+    ];
+    for (before, takes) in cases {
+        let mut table = fresh();
+        table[0] = before;
+        assert_eq!(up_with(&mut table, &[0x20B00609]), nothing(TAKEN_IN, 1));
+        let data_high = if takes { 9 } else { M };
+        assert_eq!(
+            table[0],
+            Record {
+                data_high,
+                ..before
+            }
+        );
+        let answer = if takes { SENT } else { TAKEN_IN };
+        assert_eq!(up_with(&mut table, &[0x20B02601]).0, answer);
+    }
+}
+
+#[test]
+fn an_assignable_127_127_is_sent() {
+    let stream = [0x20B0637F, 0x20B0627F, 0x20B0067F, 0x20B0267F];
+    let (answers, words) = up_all(&mut fresh(), &stream);
+    assert_eq!(answers, [1, 1, 1, 0]);
+    assert_eq!(words, [0x40307F7F, 0xFFFFFFFF]);
+}
+
+#[test]
+fn half_a_bank_is_not_sent_and_is_spent() {
+    for half in [0x20B00001, 0x20B02001] {
+        let mut table = fresh();
+        let (answers, words) = up_all(&mut table, &[half, 0x20C00500]);
+        assert_eq!(answers, [1, 0]);
+        assert_eq!(words, [0x40C00000, 0x05000000]);
+        assert_eq!(table, fresh());
+    }
+}
+
+#[test]
+fn reset_of_all_controllers_leaves_the_record() {
+    let mut table = fresh();
+    table[0] = record(REGISTERED, [1, 2, 3, 4, 5]);
+    assert_eq!(
+        up_with(&mut table, &[0x20B07900]),
+        sent(1, &[0x40B07900, 0])
+    );
+    assert_eq!(table[0], record(REGISTERED, [1, 2, 3, 4, 5]));
+}
+
+#[test]
+fn group_and_channel_are_kept_apart() {
+    for group in 0..16_u32 {
+        for channel in 0..16_u32 {
+            let mut table = fresh();
+            let place = group << 24 | channel << 16;
+            assert_eq!(
+                up_with(&mut table, &[0x20B00001 | place]),
+                nothing(TAKEN_IN, 1)
+            );
+            let mut expected = fresh();
+            expected[(16 * group + channel) as usize].bank_high = 1;
+            assert_eq!(table, expected);
+            let note = up_with(&mut table, &[0x20903C40 | place]);
+            assert_eq!(note, sent(1, &[0x40903C00 | place, 0x80000000]));
+        }
+    }
+}
+
+const NOT_SOUND_RECORDS: [(u16, [u8; 5]); 16] = [
+    (NONE, [128, M, M, M, M]),
+    (NONE, [M, 254, M, M, M]),
+    (NONE, [M, M, 0, M, M]),
+    (NONE, [M, M, M, 0, M]),
+    (NONE, [M, M, M, M, 0]),
+    (REGISTERED, [M, M, 128, M, M]),
+    (REGISTERED, [M, M, M, 200, M]),
+    (REGISTERED, [M, M, 1, 1, 128]),
+    (REGISTERED, [M, M, M, 1, 1]),
+    (ASSIGNABLE, [M, M, 1, M, 1]),
+    (ASSIGNABLE, [M, M, M, M, 1]),
+    (REGISTERED, [M, M, 127, 127, 0]),
+    (3, [M, M, M, M, M]),
+    (255, [M, M, M, M, M]),
+    (256, [M, M, M, M, M]),
+    (65535, [M, M, 1, 1, 1]),
+];
+
+const SOUND_RECORDS: [(u16, [u8; 5]); 9] = [
+    (NONE, [M, M, M, M, M]),
+    (NONE, [127, 0, M, M, M]),
+    (REGISTERED, [M, 1, M, M, M]),
+    (REGISTERED, [M, M, 127, 127, M]),
+    (REGISTERED, [M, M, 127, M, M]),
+    (REGISTERED, [M, M, 127, 126, 127]),
+    (ASSIGNABLE, [M, M, 127, 127, 127]),
+    (ASSIGNABLE, [M, M, M, 127, M]),
+    (ASSIGNABLE, [0, 0, 0, 0, 0]),
+];
+
+#[test]
+fn only_the_own_record_of_a_voice_must_be_sound() {
+    let voices = [
+        0x2181_0000,
+        0x2191_0000,
+        0x21A1_0000,
+        0x21B1_0700,
+        0x21B1_6000,
+    ];
+    let voices = voices
+        .iter()
+        .chain(&[0x21B1_0000, 0x21C1_0000, 0x21D1_0000, 0x21E1_0000]);
+    for word in voices.copied() {
+        for (kind, numbers) in NOT_SOUND_RECORDS {
+            let mut table = fresh();
+            table[0x11] = record(kind, numbers);
+            let before = table;
+            assert_eq!(up_with(&mut table, &[word]), nothing(NOT_SOUND, 0));
+            assert_eq!(up_with(&mut table, &[0x10F80000]), sent(1, &[0x10F80000]));
+            assert_eq!(up_with(&mut table, &[word | 0x8000]), nothing(BAD_DATA, 1));
+            assert_eq!(up_with(&mut table, &[0x21F10000]), nothing(BAD_STATUS, 1));
+            assert_eq!(up_with(&mut table, &[0x20903C40]).0, SENT);
+            assert_eq!(table, before);
+        }
+        for (kind, numbers) in SOUND_RECORDS {
+            let mut table = [record(3, [M; 5]); 256];
+            table[0x11] = record(kind, numbers);
+            assert!(up_with(&mut table, &[word]).0 <= TAKEN_IN);
+        }
+    }
+}
+
+#[test]
+fn a_table_of_another_length_is_answered_before_everything() {
+    for length in [0, 1, 100, 255, 257, 512] {
+        let mut table = vec![record(3, [200; 5]); length];
+        let before = table.clone();
+        for words in [
+            &[][..],
+            &[0x20903C40],
+            &[0xB0000000],
+            &[0x20700000],
+            &[0x60000000],
+        ] {
+            assert_eq!(up_with(&mut table, words), nothing(NOT_256_RECORDS, 0));
+            assert_eq!(
+                called(|out| run_up(words, &mut table, out)),
+                nothing(NOT_256_RECORDS, 0)
+            );
+        }
+        assert_eq!(table, before);
+    }
+}
+
+#[test]
+fn voices_down() {
+    let cases: [(&[u32], &[u32]); 16] = [
+        (&[0x4F8E7F55, 0x01FF5555], &[0x2F8E7F00]),
+        (&[0x4F8E7F55, 0xFFFF5555], &[0x2F8E7F7F]),
+        (&[0x4F9E0055, 0x00005555], &[0x2F9E0001]),
+        (&[0x4F9E0055, 0x02005555], &[0x2F9E0001]),
+        (&[0x4F9E0055, 0x04005555], &[0x2F9E0002]),
+        (&[0x43A507FF, 0x01FFFFFF], &[0x23A50700]),
+        (&[0x43B507FF, 0x83FFFFFF], &[0x23B50741]),
+        (&[0x43C5FFFE, 0x7FFFFFFF], &[0x23C57F00]),
+        (
+            &[0x43C5FF01, 0x7FFF0102],
+            &[0x23B50001, 0x23B52002, 0x23C57F00],
+        ),
+        (
+            &[0x43C5FFFF, 0x00FF7F00],
+            &[0x23B5007F, 0x23B52000, 0x23C50000],
+        ),
+        (&[0x43D5FFFF, 0x83FFFFFF], &[0x23D54100]),
+        (&[0x43E5FFFF, 0x80040020], &[0x23E50140]),
+        (&[0x43E50000, 0xFFFFFFFF], &[0x23E57F7F]),
+        (
+            &[0x43250102, 0x04040000],
+            &[0x23B56501, 0x23B56402, 0x23B50602, 0x23B52601],
+        ),
+        (
+            &[0x4335007F, 0xFFFFFFFF],
+            &[0x23B56300, 0x23B5627F, 0x23B5067F, 0x23B5267F],
+        ),
+        (
+            &[0x43357F7F, 0x00000000],
+            &[0x23B5637F, 0x23B5627F, 0x23B50600, 0x23B52600],
+        ),
+    ];
+    for (packet, words) in cases {
+        assert_eq!(down_one(packet), sent(2, words));
+    }
+}
+
+#[test]
+fn no_midi_1_form() {
+    for status in [0x0, 0x1, 0x4, 0x5, 0x6, 0xF] {
+        let packet = [0x40000000 | status << 20, u32::MAX];
+        assert_eq!(down_one(&packet), nothing(NO_MIDI_1_FORM, 2));
+    }
+    assert_eq!(down_one(&[0x40207F7F, 0]), nothing(NO_MIDI_1_FORM, 2));
+    assert_eq!(down_one(&[0x40207F7E, 0]).0, SENT);
+    assert_eq!(down_one(&[0x40207E7F, 0]).0, SENT);
+    for index in 0..128 {
+        let expected = match index {
+            0 | 6 | 32 | 38 | 96 | 97 | 98 | 99 | 100 | 101 => nothing(NO_MIDI_1_FORM, 2),
+            _ => sent(2, &[0x20B00040 | index << 8]),
+        };
+        assert_eq!(down_one(&[0x40B00000 | index << 8, 0x80000000]), expected);
+    }
+}
+
+#[test]
+fn status_and_data_of_midi_2_voices() {
+    for status in 0..16 {
+        let head = 0x40000000 | status << 20;
+        let (high_bad, low_bad) = match status {
+            0 | 1 | 6 | 8 | 9 | 0xA | 0xB | 0xF => (true, false),
+            2 | 3 | 4 | 5 => (true, true),
+            _ => (false, false),
+        };
+        for (bits, bad) in [(0x8000, high_bad), (0x0080, low_bad)] {
+            let answer = down_one(&[head | bits | 0x0100, 0]).0;
+            assert_eq!(answer == BAD_DATA, bad);
+            assert_eq!(answer == BAD_STATUS, status == 7);
+        }
+    }
+    assert_eq!(down_one(&[0x4070FFFF, 0]), nothing(BAD_STATUS, 2));
+    for (packet, answer) in [
+        ([0x40C00000, 0x80000000], BAD_DATA),
+        ([0x40C00000, 0x7FFFFFFF], SENT),
+        ([0x40C00001, 0x80000000], BAD_DATA),
+        ([0x40C00001, 0x00008000], BAD_DATA),
+        ([0x40C00001, 0x00000080], BAD_DATA),
+        ([0x40C000FF, 0x7FFF7F7F], SENT),
+        ([0x40C000FE, 0x7FFF8080], SENT),
+    ] {
+        assert_eq!(down_one(&packet).0, answer);
+        assert_eq!(down_one(&packet).1, 2);
+    }
+}
+
+/// The answer is 9 with any room below the need, and the need itself suffices.
+fn needs(need: usize, call: impl Fn(&mut [u32]) -> Done) {
+    for room in 0..need {
+        let mut out = vec![UNTOUCHED; room];
+        assert_eq!(call(&mut out), stopped(OUTPUT_SHORT));
+        assert_eq!(out, vec![UNTOUCHED; room]);
+    }
+    let done = call(&mut vec![UNTOUCHED; need]);
+    assert_eq!((done.answer, done.written), (SENT, need));
+}
+
+#[test]
+fn output_shorter_than_what_is_sent() {
+    let up_cases: [(&[u32], usize); 7] = [
+        (&[0x00000000], 1),
+        (&[0x10F80000], 1),
+        (&[0x30000000, 0], 2),
+        (&[0xD0000000, 0, 0, 0], 4),
+        (&[0x20903C40], 2),
+        (&[0x20B00700], 2),
+        (&[0x20B02600], 2),
+    ];
+    for (words, need) in up_cases {
+        needs(need, |out| {
+            up(words, &mut [record(ASSIGNABLE, [1; 5]); 256], out)
+        });
+    }
+    let down_cases: [(&[u32], usize); 5] = [
+        (&[0x40903C00, 0], 1),
+        (&[0x40C00000, 0], 1),
+        (&[0x40C00001, 0], 3),
+        (&[0x40200000, 0], 4),
+        (&[0x50000000, 0, 0, 0], 4),
+    ];
+    for (words, need) in down_cases {
+        needs(need, |out| down(words, out));
+    }
+}
+
+#[test]
+fn a_short_output_leaves_the_record_and_comes_last() {
+    let mut table = fresh();
+    table[0].bank_high = 1;
+    table[0].bank_low = 2;
+    let before = table;
+    assert_eq!(
+        up(&[0x20C00500], &mut table, &mut [UNTOUCHED]),
+        stopped(OUTPUT_SHORT)
+    );
+    assert_eq!(table, before);
+    assert_eq!(up(&[0x20B00003], &mut table, &mut []), refused(TAKEN_IN, 1));
+    table[0].kind = 3;
+    assert_eq!(up(&[0x20C00500], &mut table, &mut []), stopped(NOT_SOUND));
+    assert_eq!(up(&[0x20C08000], &mut table, &mut []), refused(BAD_DATA, 1));
+    assert_eq!(
+        up(&[0x20F08000], &mut table, &mut []),
+        refused(BAD_STATUS, 1)
+    );
+    assert_eq!(
+        up(&[0x40C00000, 0], &mut table, &mut []),
+        refused(WRONG_PROTOCOL, 2)
+    );
+    assert_eq!(
+        up(&[0x60000000], &mut table, &mut []),
+        refused(RESERVED_TYPE, 1)
+    );
+    assert_eq!(down(&[0x40600000, 0], &mut []), refused(NO_MIDI_1_FORM, 2));
+    assert_eq!(down(&[0x40608000, 0], &mut []), refused(BAD_DATA, 2));
+    assert_eq!(down(&[0x40708000, 0], &mut []), refused(BAD_STATUS, 2));
+}
+
+#[test]
+fn a_run_goes_on_after_refusals() {
+    let stream = [
+        0x20903C40, 0x20B00001, 0x60000000, 0x40B00000, 0, 0x20700000, 0x20903C80, 0xB0000000, 1,
+        2, 0x10F80000,
+    ];
+    let result = called(|out| run_up(&stream, &mut fresh(), out));
+    assert_eq!(result, sent(11, &[0x40903C00, 0x80000000, 0x10F80000]));
+    let stream = [
+        0x20903C40, 0x40600000, 0, 0x40700000, 0, 0x40808000, 0, 0x60000000, 0x00400000,
+    ];
+    assert_eq!(called(|out| run_down(&stream, out)), sent(9, &[0x00400000]));
+    assert_eq!(called(|out| run_up(&[], &mut fresh(), out)), sent(0, &[]));
+    assert_eq!(called(|out| run_down(&[], out)), sent(0, &[]));
+    assert_eq!(up(&[], &mut fresh(), &mut []), stopped(CUT));
+    assert_eq!(down(&[], &mut []), stopped(CUT));
+}
+
+#[test]
+fn a_run_stops_and_reports_its_sums() {
+    let stream = [0x20903C40, 0x20B10001, 0x50000000, 1, 2];
+    let mut table = fresh();
+    let result = called(|out| run_up(&stream, &mut table, out));
+    assert_eq!(result, (CUT, 2, vec![0x40903C00, 0x80000000]));
+    table[1].kind = 9;
+    let result = called(|out| run_up(&stream, &mut table, out));
+    assert_eq!(result, (NOT_SOUND, 1, vec![0x40903C00, 0x80000000]));
+    let mut out = [UNTOUCHED; 3];
+    let done = run_up(&[0x20903C40; 3], &mut fresh(), &mut out);
+    assert_eq!(
+        done,
+        Done {
+            answer: OUTPUT_SHORT,
+            read: 1,
+            written: 2
+        }
+    );
+    assert_eq!(out, [0x40903C00, 0x80000000, UNTOUCHED]);
+    let done = run_down(&[0x40800000, 0, 0x40C00001, 0], &mut out);
+    assert_eq!(
+        done,
+        Done {
+            answer: OUTPUT_SHORT,
+            read: 2,
+            written: 1
+        }
+    );
+    let done = run_down(&[0x40800000, 0, 0x40C00001], &mut out);
+    assert_eq!(
+        done,
+        Done {
+            answer: CUT,
+            read: 2,
+            written: 1
+        }
+    );
+}
+
+#[test]
+fn a_run_taken_up_again_gives_the_whole() {
+    let stream = [
+        0x20B00001, 0x20B02002, 0x20C00500, 0x20C00600, 0x50000000, 1, 2, 3, 0x10F80000,
+    ];
+    let (mut whole, mut whole_table) = ([0; 9], fresh());
+    let all = run_up(&stream, &mut whole_table, &mut whole);
+    assert_eq!(
+        all,
+        Done {
+            answer: SENT,
+            read: 9,
+            written: 9
+        }
+    );
+    for room in 0..9 {
+        let (mut out, mut table) = ([0; 9], fresh());
+        let part = run_up(&stream, &mut table, &mut out[..room]);
+        assert_eq!(part.answer, OUTPUT_SHORT);
+        let rest = run_up(&stream[part.read..], &mut table, &mut out[part.written..]);
+        assert_eq!(
+            (
+                rest.answer,
+                part.read + rest.read,
+                part.written + rest.written
+            ),
+            (0, 9, 9)
+        );
+        assert_eq!((out, table), (whole, whole_table));
+    }
+}

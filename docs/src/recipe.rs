@@ -1,0 +1,265 @@
+//! Writes the stored standard input and the expected standard output of the three programs.
+//! Everything follows from the tables and seeds in this file.
+
+mod packets;
+
+use packets::{packet, Dice, EDGE_VALUES};
+use reading::size;
+use std::path::Path;
+
+/// The words of one buffer of 64 KiB.
+const BUFFER: usize = 16384;
+
+/// Packets of the random mix behind the last edge.
+const AFTER_LAST_EDGE: usize = 1500;
+
+/// How the standard input of one program is put together.
+struct Plan {
+    name: &'static str,
+    seed: u64,
+    examples: &'static [u32],
+    every_case: fn(&mut Dice) -> Vec<u32>,
+    /// The message types of the random mix, each as often as it stands here.
+    types: &'static [u32],
+    /// For each edge the type of the packet across it, and its words before the edge.
+    straddles: [(u32, usize); 3],
+    cut_end: &'static [u8],
+    output: fn(&[u8]) -> Vec<u8>,
+    /// Treats the packet at the start of the words, and gives its answer.
+    answer: fn(&[u32], &mut [reading::Record]) -> u32,
+    /// The answers that must occur.
+    answers: &'static [u32],
+}
+
+const EXAMPLES_UP: [u32; 20] = [
+    0x20903C40, 0x20B00001, 0x60000000, 0x20903C41, 0x20903C00, 0x20B00001, 0x20B02002, 0x20C00500,
+    0x20C00500, 0x20B06500, 0x20B06400, 0x20B00602, 0x20B02600, 0x20B02601, 0x20903C80, 0x20700000,
+    0xB0000000, 0x00000000, 0x00000000, 0x10F80000,
+];
+
+const EXAMPLES_DOWN: [u32; 6] = [
+    0x40903C00, 0x01FF0000, 0xB0000000, 0x00000000, 0x00000000, 0x10F80000,
+];
+
+const TYPES_UP: [u32; 32] = [
+    2, 2, 2, 2, 2, 2, 2, 2, 2, 2, 2, 2, 0, 0, 1, 1, 3, 3, 3, 4, 5, 5, 6, 7, 8, 9, 0xA, 0xB, 0xC,
+    0xD, 0xE, 0xF,
+];
+
+const TYPES_DOWN: [u32; 32] = [
+    4, 4, 4, 4, 4, 4, 4, 4, 4, 4, 4, 4, 0, 0, 1, 1, 3, 3, 3, 2, 5, 5, 6, 7, 8, 9, 0xA, 0xB, 0xC,
+    0xD, 0xE, 0xF,
+];
+
+const TYPES_LISTING: [u32; 48] = [
+    2, 2, 2, 2, 2, 2, 2, 2, 2, 2, 2, 2, 2, 2, 2, 2, 2, 2, 2, 2, 0, 0, 0, 0, 1, 1, 1, 1, 1, 1, 3, 3,
+    3, 3, 3, 3, 4, 5, 6, 7, 8, 9, 0xA, 0xB, 0xC, 0xD, 0xE, 0xF,
+];
+
+fn plans() -> [Plan; 3] {
+    let listing = Plan {
+        name: "listing",
+        seed: 1,
+        examples: &EXAMPLES_UP,
+        every_case: every_case_up,
+        types: &TYPES_LISTING,
+        straddles: [(0xD, 1), (0xB, 2), (0x3, 1)],
+        cut_end: &[0xB0, 0, 0, 0, 0, 0, 0, 0, 0x20],
+        output: reading::listing,
+        answer: answer_up,
+        answers: &[0, 1, 4, 5, 6, 7],
+    };
+    let up = Plan {
+        name: "up",
+        seed: 2,
+        types: &TYPES_UP,
+        straddles: [(0x3, 1), (0xC, 2), (0x5, 3)],
+        cut_end: &[0x50, 0, 0, 0, 1, 2, 3, 4, 5, 6, 7, 8, 9, 10, 11],
+        output: reading::up_filter,
+        ..listing
+    };
+    let down = Plan {
+        name: "down",
+        seed: 3,
+        examples: &EXAMPLES_DOWN,
+        every_case: every_case_down,
+        types: &TYPES_DOWN,
+        straddles: [(0x4, 1), (0xF, 3), (0xB, 2)],
+        cut_end: &[0x40, 0x90, 0x3C, 0, 0x7F, 0xFF],
+        output: reading::down_filter,
+        answer: |words, _| reading::down(words, &mut [0; 4]).answer,
+        answers: &[0, 2, 4, 5, 6, 7],
+    };
+    [listing, up, down]
+}
+
+fn answer_up(words: &[u32], table: &mut [reading::Record]) -> u32 {
+    reading::up(words, table, &mut [0; 4]).answer
+}
+
+fn push(dice: &mut Dice, message_type: u32, stream: &mut Vec<u32>) {
+    let words = packet(dice, message_type);
+    stream.extend(&words[..size(words[0])]);
+}
+
+/// Values of bits 23 to 16 under every message type, and all of them under types 0 to 4.
+fn every_status(dice: &mut Dice, stream: &mut Vec<u32>) {
+    for message_type in 0..16 {
+        let step = if message_type < 5 { 1 } else { 17 };
+        for status in (0..256).step_by(step) {
+            let start = stream.len();
+            push(dice, message_type, stream);
+            stream[start] = stream[start] & 0xFF00_FFFF | status << 16;
+        }
+    }
+}
+
+/// Control changes that bring a record to each sort of address, with data high where it takes it.
+const ADDRESSES: [&[u32]; 7] = [
+    &[],
+    &[0x6505, 0x6406, 0x0607],
+    &[0x6305, 0x6206, 0x0607],
+    &[0x657F, 0x647F, 0x0607],
+    &[0x637F, 0x627F, 0x0607],
+    &[0x6505, 0x0607],
+    &[0x6206, 0x0607],
+];
+
+/// Every control change over every sort of record, which data low and program changes then show.
+fn every_case_up(dice: &mut Dice) -> Vec<u32> {
+    let mut stream = vec![];
+    every_status(dice, &mut stream);
+    for (group, address) in (0..).zip(ADDRESSES) {
+        for index in 0..128 {
+            let place = group << 24 | dice.word() & 0x000F_0000;
+            let control = |data| 0x20B0_0000 | place | data;
+            stream.extend(address.iter().map(|data| control(*data)));
+            stream.extend([control(0x0003), control(0x2004)]);
+            stream.push(control(index << 8 | dice.below(128) as u32));
+            stream.extend([control(0x2641), 0x20C0_0900 | place, 0x20C0_0AFF | place]);
+        }
+    }
+    for data in 0..256 {
+        for status in 0x8..0xF {
+            stream.push(0x2500_0000 | status << 20 | 0x3C00 | data);
+            stream.push(0x2500_0000 | status << 20 | data << 8 | 0x41);
+        }
+    }
+    stream
+}
+
+/// Every MIDI 2.0 status over the edges of its bytes and of its value, and every controller index.
+fn every_case_down(dice: &mut Dice) -> Vec<u32> {
+    let mut stream = vec![];
+    every_status(dice, &mut stream);
+    for status in 0..16 {
+        for high in [0, 1, 127, 128, 255] {
+            for low in [0, 1, 2, 127, 128, 255] {
+                let head = 0x4000_0000 | status << 20 | high << 8 | low;
+                for value in EDGE_VALUES {
+                    stream.extend([head | dice.word() & 0x0F0F_0000, value]);
+                }
+            }
+        }
+    }
+    for index in 0..256 {
+        stream.extend([0x40B0_0000 | index << 8 | dice.word() & 0xFF, dice.word()]);
+        stream.extend([0x4090_3C00, index << 24 | 0x01FF_0000]);
+        stream.extend([0x40C0_0000 | index & 3, dice.word() & 0x7FFF_FFFF]);
+    }
+    stream
+}
+
+/// Damage that leaves the size: one bit, but none of the message type.
+fn damage(dice: &mut Dice, packet: &mut [u32]) {
+    let place = dice.below(packet.len());
+    let bits = if place == 0 { 28 } else { 32 };
+    packet[place] ^= 1 << dice.below(bits);
+}
+
+fn push_mixed(dice: &mut Dice, types: &[u32], stream: &mut Vec<u32>) {
+    let start = stream.len();
+    let message_type = dice.pick(types);
+    push(dice, message_type, stream);
+    if dice.one_in(10) {
+        damage(dice, &mut stream[start..]);
+    }
+}
+
+/// Examples, every case, then the random mix with a packet across each edge.
+fn whole_packets(plan: &Plan) -> Vec<u32> {
+    let mut dice = Dice::new(plan.seed);
+    let mut stream = plan.examples.to_vec();
+    stream.extend((plan.every_case)(&mut dice));
+    for (edge, (message_type, before)) in edges().zip(plan.straddles) {
+        assert!(
+            stream.len() + 8 < edge,
+            "{}: no room before an edge",
+            plan.name
+        );
+        while stream.len() + 8 < edge {
+            push_mixed(&mut dice, plan.types, &mut stream);
+        }
+        // Two words each up to the last packet: a rest carried over moves a reader's later edges.
+        if (edge - before - stream.len()) % 2 == 1 {
+            push(&mut dice, 1, &mut stream);
+        }
+        while stream.len() + before < edge {
+            push(&mut dice, 3, &mut stream);
+        }
+        push(&mut dice, message_type, &mut stream);
+    }
+    for _ in 0..AFTER_LAST_EDGE {
+        push_mixed(&mut dice, plan.types, &mut stream);
+    }
+    stream
+}
+
+fn edges() -> impl Iterator<Item = usize> {
+    (1..).map(|count| count * BUFFER)
+}
+
+/// Fails unless the stream has what the plan promises of it.
+fn check(plan: &Plan, stream: &[u32]) {
+    let mut table = [reading::empty(); 256];
+    let (mut types, mut answers) = ([0; 16], [0; 11]);
+    let mut straddled = vec![];
+    let mut place = 0;
+    while place < stream.len() {
+        let size = size(stream[place]);
+        types[(stream[place] >> 28) as usize] += 1;
+        answers[(plan.answer)(&stream[place..], &mut table) as usize] += 1;
+        if place / BUFFER != (place + size - 1) / BUFFER {
+            straddled.push(size);
+        }
+        place += size;
+    }
+    assert!(place == stream.len() && types.iter().all(|count| *count > 0));
+    assert!(plan
+        .answers
+        .iter()
+        .all(|answer| answers[*answer as usize] > 0));
+    assert_eq!(straddled.len(), stream.len() / BUFFER);
+    straddled.sort_unstable();
+    assert_eq!(straddled, [2, 3, 4]);
+    println!("{}: packets by type {:?}", plan.name, types);
+    println!("{}: answers {:?}, and 3 at the end", plan.name, answers);
+}
+
+fn write(plan: &Plan, folder: &Path) -> std::io::Result<()> {
+    let stream = whole_packets(plan);
+    check(plan, &stream);
+    let mut input: Vec<u8> = stream.iter().flat_map(|word| word.to_be_bytes()).collect();
+    input.extend(plan.cut_end);
+    let folder = folder.join(plan.name);
+    std::fs::create_dir_all(&folder)?;
+    std::fs::write(folder.join("stdout"), (plan.output)(&input))?;
+    std::fs::write(folder.join("stdin"), input)
+}
+
+fn main() -> std::io::Result<()> {
+    let folder = std::env::args().nth(1).expect("usage: recipe FOLDER");
+    plans()
+        .iter()
+        .try_for_each(|plan| write(plan, Path::new(&folder)))
+}

@@ -1,0 +1,121 @@
+//! Times two upward runs over the same million words.
+
+use crate::packets::{packet, Dice};
+use reading::{empty, size, Done, Record};
+use std::time::{Duration, Instant};
+
+const WORDS: usize = 1_000_000;
+const REPETITIONS: usize = 15;
+
+type RunUp = fn(&[u32], &mut [Record], &mut [u32]) -> Done;
+
+/// Times both sides in turn and prints a row for each mix: its name, then the best milliseconds
+/// of the product and of the reading.
+pub fn compare(product: RunUp, reading: RunUp) {
+    let mut out = vec![0; 2 * WORDS];
+    for (mix, words) in [
+        ("random-mix", random_mix()),
+        ("played-music", played_music()),
+    ] {
+        let mut best = [Duration::MAX; 2];
+        for _ in 0..REPETITIONS {
+            for (side, run) in [product, reading].into_iter().enumerate() {
+                best[side] = best[side].min(time(run, &words, &mut out));
+            }
+        }
+        let [product, reading] = best.map(|time| time.as_secs_f64() * 1000.0);
+        println!("{} {:.3} {:.3}", mix, product, reading);
+    }
+}
+
+fn time(run: RunUp, words: &[u32], out: &mut [u32]) -> Duration {
+    let mut table = [empty(); 256];
+    let start = Instant::now();
+    let done = run(words, &mut table, out);
+    let time = start.elapsed();
+    assert_eq!((done.answer, done.read), (reading::SENT, words.len()));
+    time
+}
+
+/// Packets of all sorts, some of them refused.
+fn random_mix() -> Vec<u32> {
+    let mut dice = Dice::new(100);
+    let mut words = vec![];
+    while words.len() + 4 <= WORDS {
+        let message_type = match dice.below(3) {
+            0 => dice.below(16) as u32,
+            _ => 2,
+        };
+        let mut packet = packet(&mut dice, message_type);
+        if dice.one_in(20) {
+            packet[0] ^= 1 << dice.below(24);
+        }
+        words.extend(&packet[..size(packet[0])]);
+    }
+    words.resize(WORDS, 0);
+    words
+}
+
+/// Eight players in one group: notes and sweeps of controllers and bend, now and then a new sound.
+fn played_music() -> Vec<u32> {
+    let mut dice = Dice::new(200);
+    let mut words = vec![];
+    while words.len() + 64 <= WORDS {
+        let channel = (dice.below(8) as u32) << 16;
+        match dice.below(100) {
+            0 => new_sound(&mut dice, channel, &mut words),
+            1..=15 => sweep(&mut dice, channel, &mut words),
+            16..=22 => words.push(0x10F8_0000),
+            _ => chord(&mut dice, channel, &mut words),
+        }
+    }
+    words.resize(WORDS, 0x10F8_0000);
+    words
+}
+
+/// Notes that begin and end together; half of the players end theirs by a silent Note On.
+fn chord(dice: &mut Dice, channel: u32, words: &mut Vec<u32>) {
+    let notes = [0; 3].map(|_: u32| (36 + dice.below(60) as u32) << 8);
+    let notes = &notes[..1 + dice.below(3)];
+    for note in notes {
+        words.push(0x2090_0000 | channel | note | 1 + dice.below(127) as u32);
+    }
+    if dice.one_in(4) {
+        sweep(dice, channel, words);
+    }
+    let off = if channel & 0x1_0000 == 0 {
+        0x2090_0000
+    } else {
+        0x2080_0040
+    };
+    words.extend(notes.iter().map(|note| off | channel | note));
+}
+
+/// A controller, the bend or the pressure moved by small steps.
+fn sweep(dice: &mut Dice, channel: u32, words: &mut Vec<u32>) {
+    let head = dice.pick(&[
+        0x20B0_0100,
+        0x20B0_0700,
+        0x20B0_0B00,
+        0x20B0_4000,
+        0x20E0_0000,
+        0x20D0_0000,
+    ]);
+    let mut value = dice.below(100) as u32;
+    for _ in 0..4 + dice.below(8) {
+        let place = if head == 0x20D0_0000 {
+            value << 8
+        } else {
+            value
+        };
+        words.push(head | channel | place);
+        value = (value + dice.below(5) as u32).min(127);
+    }
+}
+
+/// Bank, program, and the range of the bend as a registered controller.
+fn new_sound(dice: &mut Dice, channel: u32, words: &mut Vec<u32>) {
+    let program = (dice.below(128) as u32) << 8;
+    words.extend([0x20B0_0000, 0x20B0_2001, 0x20C0_0000 | program].map(|word| word | channel));
+    words.extend([0x20B0_6500, 0x20B0_6400, 0x20B0_0602, 0x20B0_2600].map(|word| word | channel));
+}
