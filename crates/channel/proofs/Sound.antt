@@ -4,67 +4,93 @@ use mathlib.Core.Bool.{Bool, true, false, false≢true, cond, not, _&&_, _||_}
 use Prim.Native.Nat.{ℕ, _≤_}
 use lib.Dec.{eqb, leb}
 use native.Mathlib.Omega.{arith}
-use borrow.Author.Tests.{le-leb, leb-true, ne-eqb, not-true}
+use borrow.Author.Tests.{eq-eqb, le-leb, leb-true, ne-eqb, not-true}
 use Rattle.channel.specs.declared.Record.{Record}
 use Rattle.channel.specs.Record.{StaysSound, addressed, complete, dataHighPresent, empty, kept, null, number, present, sound, withAddressBank, withAddressIndex, withBankHigh, withBankLow, withBankSpent, withDataHigh}
-use Rattle.channel.proofs.Bools.{and-false, and-left, and-right, bools}
+use Rattle.channel.proofs.Bools.{and-left, and-right, bools}
 
--- The tree of the code, way by way, over the tests. `p` and `x`: the address bank is at most 127, is missing; `q` and `y`: the index;
--- `n`: data high is at most 127; `l` and `z`: the kind is at most 2, is none; `u`: the address is null; `w`: any.
-none-way : (p x q y : Bool) → (((p || x) && ((q || y) && true)) && (not (not x || (not y || false)) && true)) ≡ (x && y)
-none-way p true q true = simp bools
-none-way p true q false = simp bools
-none-way p false q y = simp bools
+-- The tree of the code, way by way, over the tests. `m`: the bank halves are numbers; `l` and `z`: the kind is at most 2, is none; `p` and `x`: the
+-- address bank is at most 127, is missing; `q` and `y`: the index; `n` and `d`: data high; `u`: the address is null.
+row : (m l z p x q y n d u : Bool) → Bool
+row m l z p x q y n d u =
+    m && ((l && ((p || x) && ((q || y) && (n || d)))) && ((not z || not (not x || (not y || not d))) && (not (not d) || ((not z && (not x && not y)) && not u))))
 
-kind-way : (l a b : Bool) → ((l && (a && (b && true))) && true) ≡ (l && (a && b))
-kind-way l a b = simp bools
+none-way : (m l z p q n u : Bool) → row m l z p true q true n true u ≡ (l && m)
+unfolding row
+none-way true true z p q n u = simp bools
+none-way true false z p q n u = simp bools
+none-way false true z p q n u = simp bools
+none-way false false z p q n u = simp bools
 
-data-way : (l z n u : Bool) → ((l && (n || false)) && ((not z || false) && ((not z && true) && not u))) ≡ (n && ((l && not z) && not u))
+bare-way : (m l p x q y n d u : Bool) → (x && y && d) ≡ false → row m l true p x q y n d u ≡ false
+unfolding row
+bare-way m l p true q true n true u h = absurd (false≢true (sym h))
+bare-way m l p true q true n false u h = simp bools
+bare-way m l p true q false n d u h = simp bools
+bare-way m l p false q y n d u h = simp bools
+
+kind-way : (m l p x q y n u : Bool) → row m l false p x q y n true u ≡ ((l && m) && ((p || x) && (q || y)))
+unfolding row
+kind-way true true p x q y n u = simp bools
+kind-way true false p x q y n u = simp bools
+kind-way false true p x q y n u = refl
+kind-way false false p x q y n u = refl
+
+data-way : (m l n u : Bool) → row m l false true false true false n false u ≡ ((l && m) && (n && not u))
+unfolding row
 data-way true true n u = simp bools
 data-way true false n u = simp bools
-data-way false z n u = simp bools
+data-way false true n u = refl
+data-way false false n u = refl
 
-short-way : (l p x q y n w z u : Bool) → (p && q) ≡ false
-    → ((l && ((p || x) && ((q || y) && n))) && (w && ((not z && (not x && not y)) && not u))) ≡ false
-short-way l true x true y n w z u h = absurd (false≢true (sym h))
-short-way l true x false true n w z u h = simp bools
-short-way l true x false false n w z u h = simp bools
-short-way l false true q y n w z u h = simp bools
-short-way l false false q y n w z u h = simp bools
+short-way : (m l z p x q y n u : Bool) → (p && q) ≡ false → row m l z p x q y n false u ≡ false
+unfolding row
+short-way m l z true x true y n u h = absurd (false≢true (sym h))
+short-way m l z true x false true n u h = simp bools
+short-way m l z true x false false n u h = simp bools
+short-way m l z false true q y n u h = simp bools
+short-way m l z false false q y n u h = simp bools
 
-unfoldable pub banks : Record → Bool
-banks r = number (r .«bank_high») && number (r .«bank_low»)
+unfoldable pub fine : Record → Bool
+fine r = leb (r .kind) 2 && (number (r .«bank_high») && number (r .«bank_low»))
 
 module _ (r : Record) where
-  pub sound-none : r .«data_high» ≡ 255 → r .kind ≡ 0 → sound r ≡ (banks r && (eqb (r .«address_bank») 255 && eqb (r .«address_index») 255))
-  unfolding sound banks
-  sound-none h k =
-      rw (h, k)
-      (ap (_&&_ (banks r)) (none-way (leb (r .«address_bank») 127) (eqb (r .«address_bank») 255) (leb (r .«address_index») 127) (eqb (r .«address_index») 255)))
+  -- soundness is the row
+  rowed : (z x y d : Bool) → eqb (r .kind) 0 ≡ z → eqb (r .«address_bank») 255 ≡ x → eqb (r .«address_index») 255 ≡ y → eqb (r .«data_high») 255 ≡ d
+      → sound r
+      ≡ row (number (r .«bank_high») && number (r .«bank_low»)) (leb (r .kind) 2) z (leb (r .«address_bank») 127) x (leb (r .«address_index») 127) y (leb (r .«data_high») 127) d (null r)
+  unfolding sound row
+  rowed z x y d e f g h = rw (← e, ← f, ← g, ← h)
 
-  pub sound-kind : r .«data_high» ≡ 255 → (r .kind ≡ 0 → ⊥)
-      → sound r ≡ (banks r && (leb (r .kind) 2 && (number (r .«address_bank») && number (r .«address_index»))))
-  unfolding sound banks
-  sound-kind h k =
-      rw (h, ne-eqb (r .kind) 0 k)
-      (ap (_&&_ (banks r)) (kind-way (leb (r .kind) 2) (number (r .«address_bank»)) (number (r .«address_index»))))
+  pub sound-none : (eqb (r .«address_bank») 255 && eqb (r .«address_index») 255 && eqb (r .«data_high») 255) ≡ true → sound r ≡ fine r
+  unfolding fine
+  sound-none h =
+      let b = eqb (r .«address_bank») 255 in
+      let i = eqb (r .«address_index») 255 in
+      let d = eqb (r .«data_high») 255 in
+      let f = and-left (b && i) d h in
+      rowed _ true true true refl (and-left b i f) (and-right b i f) (and-right (b && i) d h) ∙ none-way _ _ _ _ _ _ _
 
-  pub sound-data : (r .«data_high» ≡ 255 → ⊥) → (leb (r .«address_bank») 127 && leb (r .«address_index») 127) ≡ true
-      → sound r ≡ (banks r && (leb (r .«data_high») 127 && ((leb (r .kind) 2 && not (eqb (r .kind) 0)) && not (null r))))
-  unfolding sound banks
-  sound-data h k =
-      let b = and-left (leb (r .«address_bank») 127) (leb (r .«address_index») 127) k in
-      let i = and-right (leb (r .«address_bank») 127) (leb (r .«address_index») 127) k in
+  pub sound-bare : (eqb (r .«address_bank») 255 && eqb (r .«address_index») 255 && eqb (r .«data_high») 255) ≡ false → r .kind ≡ 0 → sound r ≡ false
+  sound-bare h k = rowed true _ _ _ (eq-eqb (r .kind) 0 k) refl refl refl ∙ bare-way _ _ _ _ _ _ _ _ _ h
+
+  pub sound-kind : (r .kind ≡ 0 → ⊥) → r .«data_high» ≡ 255 → sound r ≡ (fine r && (number (r .«address_bank») && number (r .«address_index»)))
+  unfolding fine
+  sound-kind k h = rowed false _ _ true (ne-eqb (r .kind) 0 k) refl refl (eq-eqb (r .«data_high») 255 h) ∙ kind-way _ _ _ _ _ _ _ _
+
+  pub sound-data : (r .kind ≡ 0 → ⊥) → (r .«data_high» ≡ 255 → ⊥) → (leb (r .«address_bank») 127 && leb (r .«address_index») 127) ≡ true
+      → sound r ≡ (fine r && (leb (r .«data_high») 127 && not (null r)))
+  unfolding fine
+  sound-data k h t =
+      let b = and-left (leb (r .«address_bank») 127) (leb (r .«address_index») 127) t in
+      let i = and-right (leb (r .«address_bank») 127) (leb (r .«address_index») 127) t in
       let bn = leb-true (r .«address_bank») 127 b in
       let im = leb-true (r .«address_index») 127 i in
-      rw (ne-eqb (r .«data_high») 255 h, b, i, ne-eqb (r .«address_bank») 255 (λ e. omega arith), ne-eqb (r .«address_index») 255 (λ e. omega arith))
-      (ap (_&&_ (banks r)) (data-way (leb (r .kind) 2) (eqb (r .kind) 0) (leb (r .«data_high») 127) (null r)))
+      rowed false false false false (ne-eqb (r .kind) 0 k) (ne-eqb (r .«address_bank») 255 (λ e. omega arith)) (ne-eqb (r .«address_index») 255 (λ e. omega arith)) (ne-eqb (r .«data_high») 255 h)
+      ∙ rw (b, i) (data-way _ _ _ _)
 
   pub sound-short : (r .«data_high» ≡ 255 → ⊥) → (leb (r .«address_bank») 127 && leb (r .«address_index») 127) ≡ false → sound r ≡ false
-  unfolding sound banks
-  sound-short h k =
-      rw (ne-eqb (r .«data_high») 255 h, short-way (leb (r .kind) 2) (leb (r .«address_bank») 127) (eqb (r .«address_bank») 255) (leb (r .«address_index») 127) (eqb (r .«address_index») 255) (leb (r .«data_high») 127 || false) (not (eqb (r .kind) 0) || not (present (r .«address_bank») || (present (r .«address_index») || true))) (eqb (r .kind) 0) (null r) k)
-      (and-false (banks r))
+  sound-short h t = rowed _ _ _ false refl refl refl (ne-eqb (r .«data_high») 255 h) ∙ short-way _ _ _ _ _ _ _ _ _ t
 
 -- the parts of soundness
 pub record Parts (r : Record) : Type 0 where

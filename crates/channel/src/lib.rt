@@ -88,7 +88,7 @@ impl Record {
         !(self.data_high == MISSING)
     }
 
-    // Data high is asked first: mostly it is missing, and then the address is not looked at closely.
+    // Mostly no address stands: that is asked first, and then nothing more of it.
     pub fn is_sound(self) -> bool
         ensures { λ r. ⌜ r ≡ sound self ⌝ }
     {
@@ -96,17 +96,18 @@ impl Record {
         let bank = self.address_bank;
         let index = self.address_index;
         let data_high = self.data_high;
-        let banks = is_number(self.bank_high) & is_number(self.bank_low);
+        let fine = (kind <= ASSIGNABLE) & (is_number(self.bank_high) & is_number(self.bank_low));
+        if (bank == MISSING) & (index == MISSING) & (data_high == MISSING) {
+            return fine;
+        }
+        if kind == NONE {
+            return false;
+        }
         if data_high == MISSING {
-            if kind == NONE {
-                return banks & ((bank == MISSING) & (index == MISSING));
-            }
-            return banks & ((kind <= ASSIGNABLE) & (is_number(bank) & is_number(index)));
+            return fine & (is_number(bank) & is_number(index));
         }
         if (bank <= 127) & (index <= 127) {
-            return banks
-                & ((data_high <= 127)
-                    & (((kind <= ASSIGNABLE) & !(kind == NONE)) & !self.address_null()));
+            return fine & ((data_high <= 127) & !self.address_null());
         }
         false
     }

@@ -1,6 +1,6 @@
 -- Packets: sizes are 1 to 4; the packet that stands first, at a place of the words; and that cutting undoes joining.
 -- Assumes nothing.
-use Prim.Native.Nat.{ℕ, zero, suc, pred, _+_, _-_, _≤_, _<_}
+use Prim.Native.Nat.{ℕ, zero, suc, pred, _+_, _-_, _*_, _/_, _%_, _^_, _≤_, _<_}
 use mathlib.Core.Path.{_≡_, refl, sym, ap, _∙_}
 use mathlib.Core.Bool.{Bool, true, false, cond}
 use mathlib.Core.List.{List, [], _∷_, _++_}
@@ -134,22 +134,22 @@ packet-four (w ∷ s) = go (leb (size w) (length (w ∷ s)))
     go true = omega (arith, length-take (size w) (w ∷ s), size-range w)
     go false = omega arith
 
--- a type of none of the larger sizes
-pub one-word : (t : ℕ) → t < 16 → (t ≡ 3 → ⊥) → (t ≡ 4 → ⊥) → (t ≡ 5 → ⊥) → (t ≡ 8 → ⊥) → (t ≡ 9 → ⊥) → (t ≡ 10 → ⊥) → (t ≡ 11 → ⊥) → (t ≡ 12 → ⊥) → (t ≡ 13 → ⊥) → (t ≡ 14 → ⊥) → (t ≡ 15 → ⊥) → getD sizes t 0 ≡ 1
-one-word zero q a b c d e f g h i j k = refl
-one-word (suc zero) q a b c d e f g h i j k = refl
-one-word (suc (suc zero)) q a b c d e f g h i j k = refl
-one-word (suc (suc (suc zero))) q a b c d e f g h i j k = absurd (a refl)
-one-word (suc (suc (suc (suc zero)))) q a b c d e f g h i j k = absurd (b refl)
-one-word (suc (suc (suc (suc (suc zero))))) q a b c d e f g h i j k = absurd (c refl)
-one-word (suc (suc (suc (suc (suc (suc zero)))))) q a b c d e f g h i j k = refl
-one-word (suc (suc (suc (suc (suc (suc (suc zero))))))) q a b c d e f g h i j k = refl
-one-word (suc (suc (suc (suc (suc (suc (suc (suc zero)))))))) q a b c d e f g h i j k = absurd (d refl)
-one-word (suc (suc (suc (suc (suc (suc (suc (suc (suc zero))))))))) q a b c d e f g h i j k = absurd (e refl)
-one-word (suc (suc (suc (suc (suc (suc (suc (suc (suc (suc zero)))))))))) q a b c d e f g h i j k = absurd (f refl)
-one-word (suc (suc (suc (suc (suc (suc (suc (suc (suc (suc (suc zero))))))))))) q a b c d e f g h i j k = absurd (g refl)
-one-word (suc (suc (suc (suc (suc (suc (suc (suc (suc (suc (suc (suc zero)))))))))))) q a b c d e f g h i j k = absurd (h refl)
-one-word (suc (suc (suc (suc (suc (suc (suc (suc (suc (suc (suc (suc (suc zero))))))))))))) q a b c d e f g h i j k = absurd (i refl)
-one-word (suc (suc (suc (suc (suc (suc (suc (suc (suc (suc (suc (suc (suc (suc zero)))))))))))))) q a b c d e f g h i j k = absurd (j refl)
-one-word (suc (suc (suc (suc (suc (suc (suc (suc (suc (suc (suc (suc (suc (suc (suc zero))))))))))))))) q a b c d e f g h i j k = absurd (k refl)
-one-word (suc (suc (suc (suc (suc (suc (suc (suc (suc (suc (suc (suc (suc (suc (suc (suc t)))))))))))))))) q a b c d e f g h i j k = absurd (omega arith)
+-- the sizes in one number, two bits for each
+pub size-bits : (t : ℕ) → t < 16 → 0xFE950D40 / 2 ^ (t * 2) % 4 + 1 ≡ getD sizes t 0
+size-bits zero h = refl
+size-bits (suc zero) h = refl
+size-bits (suc (suc zero)) h = refl
+size-bits (suc (suc (suc zero))) h = refl
+size-bits (suc (suc (suc (suc zero)))) h = refl
+size-bits (suc (suc (suc (suc (suc zero))))) h = refl
+size-bits (suc (suc (suc (suc (suc (suc zero)))))) h = refl
+size-bits (suc (suc (suc (suc (suc (suc (suc zero))))))) h = refl
+size-bits (suc (suc (suc (suc (suc (suc (suc (suc zero)))))))) h = refl
+size-bits (suc (suc (suc (suc (suc (suc (suc (suc (suc zero))))))))) h = refl
+size-bits (suc (suc (suc (suc (suc (suc (suc (suc (suc (suc zero)))))))))) h = refl
+size-bits (suc (suc (suc (suc (suc (suc (suc (suc (suc (suc (suc zero))))))))))) h = refl
+size-bits (suc (suc (suc (suc (suc (suc (suc (suc (suc (suc (suc (suc zero)))))))))))) h = refl
+size-bits (suc (suc (suc (suc (suc (suc (suc (suc (suc (suc (suc (suc (suc zero))))))))))))) h = refl
+size-bits (suc (suc (suc (suc (suc (suc (suc (suc (suc (suc (suc (suc (suc (suc zero)))))))))))))) h = refl
+size-bits (suc (suc (suc (suc (suc (suc (suc (suc (suc (suc (suc (suc (suc (suc (suc zero))))))))))))))) h = refl
+size-bits (suc (suc (suc (suc (suc (suc (suc (suc (suc (suc (suc (suc (suc (suc (suc (suc t)))))))))))))))) h = absurd (omega arith)

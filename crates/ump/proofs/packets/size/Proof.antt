@@ -1,27 +1,17 @@
--- `ump::size` meets its contract, message type by message type. Assumes nothing.
-use Rattle.ump.specs.Packet.{size}
-use mathlib.Core.Path.{sym}
+-- `ump::size` meets its contract: the two bits of a message type are its size less one. Assumes nothing.
 use native.Mathlib.Omega.{arith}
+use borrow.Author.Needs.{needs}
 use Rattle.ump.specs.Word.{messageType}
-use Rattle.ump.proofs.PacketLaws.{one-word}
+use Rattle.ump.specs.Packet.{size}
+use Rattle.ump.proofs.PacketLaws.{size-bits}
 use Rattle.ump.proofs.packets.size.Statement.{statement}
 use Rattle.ump.proofs.packets.size.Tie as tie
 
-pub size-spec : {M : Type 1} → statement M
+returns : tie.Need-returns
 unfolding size
+returns c = size-bits (messageType (c .args .w)) (omega arith)
+
+pub size-spec : {M : Type 1} → statement M
 size-spec =
     tie.close
-    (tie.spec
-    (λ c. simp (c .match .keys1))
-    (λ c. simp (c .match .keys2))
-    (λ c. simp (c .match .keys3))
-    (λ c. simp (c .match .keys4))
-    (λ c. simp (c .match .keys5))
-    (λ c. simp (c .match .keys6))
-    (λ c. simp (c .match .keys7))
-    (λ c. simp (c .match .keys8))
-    (λ c. simp (c .match .keys9))
-    (λ c. simp (c .match .keys10))
-    (λ c. simp (c .match .keys11))
-    (λ c. let r = c .match .rest in
-    sym (one-word (messageType (c .before .args .w)) (omega arith) (r .0 .0 .0 .0 .0 .0 .0 .0 .0 .0 .1) (r .0 .0 .0 .0 .0 .0 .0 .0 .0 .1) (r .0 .0 .0 .0 .0 .0 .0 .0 .1) (r .0 .0 .0 .0 .0 .0 .0 .1) (r .0 .0 .0 .0 .0 .0 .1) (r .0 .0 .0 .0 .0 .1) (r .0 .0 .0 .0 .1) (r .0 .0 .0 .1) (r .0 .0 .1) (r .0 .1) (r .1))))
+    (tie.spec (λ c. search needs) (λ c. search needs) (λ c. search needs) (λ c. search needs) returns)
