@@ -1,4 +1,9 @@
-// What a caller uses: one call and a run, over the table that the caller lends.
+// What a caller uses: one call and a run, up and down, over the table that the caller lends; a
+// reader of packets; and the names that C and Rust link (include/quernbrae.h).
+//
+// No function has a `requires`. Each contract gives the report, the table and the output at exit by
+// the definitions of specs/Run.antt and specs/Table.antt, on every input. The table is never copied:
+// a packet reads one record and stores one.
 mod reader;
 
 use channel::Record;
