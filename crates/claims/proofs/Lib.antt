@@ -1,0 +1,11 @@
+pub mod RunLaws
+pub mod StepLaws
+pub mod StreamLaws
+pub mod RoomLaws
+pub mod PacketByPacket
+pub mod LiftLaws
+pub mod WordLaws
+pub mod RoundLaws
+pub mod RoundTrip
+pub mod NormalForm
+pub mod RefusalLaws

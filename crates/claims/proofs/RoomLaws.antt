@@ -1,0 +1,58 @@
+-- The room of the output. Assumes nothing.
+use Prim.Native.Nat.{ℕ, _*_, _<_, _≤_}
+use mathlib.Core.Path.{_≡_, refl, sym, ap, _∙_}
+use mathlib.Core.Bool.{Bool, true, false}
+use mathlib.Core.List.{List}
+use native.Mathlib.Omega.{arith}
+use lib.ListN.{length}
+use lib.Dec.{eqb, leb}
+use borrow.Author.Tests.{eqb-false, eqb-true, leb-false, leb-true}
+use Rattle.ump.specs.Packet.{cut}
+use Rattle.voice.specs.Call.{Call, sentOf, within}
+use Rattle.voice.specs.Packet.{callDown}
+use Rattle.quernbrae.specs.Run.{Ran, run}
+use Rattle.quernbrae.specs.Table.{tableUp}
+use Rattle.claims.specs.Room.{Room, Roomy}
+use Rattle.claims.proofs.RunLaws.{Stops, ample, bounded, never, roomy}
+use Rattle.claims.proofs.StepLaws.{down-few, down-stops, up-few, up-stops}
+use Rattle.claims.proofs.StreamLaws.{cut-size}
+
+-- of any step that itself never stops with 9, and sends at most two words for each of its packet
+module _
+    {T : Type 0}
+    (step : T → List ℕ → Call T)
+    (stops : (t : T) (p : List ℕ) → Stops (λ (a : ℕ). a ≡ 9 → ⊥) (step t p))
+    (few : (t : T) (p : List ℕ) → length (sentOf (step t p)) ≤ 2 * length p)
+  where
+    short : (room : ℕ) (t : T) (ps : List (List ℕ)) → run (within step) (room, t) ps .answer ≡ 9 → room < length (run step t ps .sent)
+    short room t ps e = go (leb (length (run step t ps .sent)) room) refl
+      where
+        go : (b : Bool) → leb (length (run step t ps .sent)) room ≡ b → room < length (run step t ps .sent)
+        go true h =
+            let same = ample step ps t room (leb-true (length (run step t ps .sent)) room h) in
+            absurd (never step (λ (a : ℕ). a ≡ 9 → ⊥) (λ e. omega arith) stops ps t (sym (ap (λ (r : Ran (ℕ × T)). r .answer) same) ∙ e))
+        go false h = leb-false (length (run step t ps .sent)) room h
+
+    answered : (room : ℕ) (t : T) (ps : List (List ℕ)) → room < length (run step t ps .sent) → run (within step) (room, t) ps .answer ≡ 9
+    answered room t ps h = go (eqb (run (within step) (room, t) ps .answer) 9) refl
+      where
+        go : (b : Bool) → eqb (run (within step) (room, t) ps .answer) 9 ≡ b → run (within step) (room, t) ps .answer ≡ 9
+        go true e = eqb-true (run (within step) (room, t) ps .answer) 9 e
+        go false e = absurd (omega (arith, roomy step ps t room (eqb-false (run (within step) (room, t) ps .answer) 9 e)))
+
+    all-roomy : Roomy step
+    all-roomy =
+        record {
+          nine = λ room t s. (short room t (cut s), answered room t (cut s));
+          all = λ room t s h. ample step (cut s) t room h;
+          twice = λ room t s h.
+              let l : length (run step t (cut s) .sent) ≤ 2 * length s = rw cut-size at (bounded step 2 few (cut s) t) in
+              (λ e. omega (arith, short room t (cut s) e), ample step (cut s) t room (omega arith));
+        }
+
+pub proved-room : Room
+proved-room =
+    record {
+      up = all-roomy tableUp (up-stops (λ (a : ℕ). a ≡ 9 → ⊥) (λ e. omega arith) (λ e. omega arith) (λ e. omega arith)) up-few;
+      down = all-roomy callDown (down-stops (λ (a : ℕ). a ≡ 9 → ⊥) (λ e. omega arith)) down-few;
+    }
