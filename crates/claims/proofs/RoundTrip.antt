@@ -25,7 +25,7 @@ use Rattle.voice.specs.Call.{Call, leftOf, sentOf, stopped, went, within}
 use Rattle.voice.specs.Packet.{callDown, callUp, first, packetDown, packetUp, sending, sendingDown, speakDown, speakUp}
 use Rattle.voice.proofs.MessageLaws.{place1, place2, read1-write1, read2-write2}
 use Rattle.quernbrae.specs.Run.{run}
-use Rattle.quernbrae.specs.Table.{placeOf, stored, tableUp}
+use Rattle.quernbrae.specs.Table.{placeOf, runDown, runUp, stored, tableUp}
 use Rattle.claims.specs.RoundTrip.{Gated, RoundTrip, RoundTripGated, StillPasses}
 use Rattle.claims.specs.Runs.{All, joined}
 use Rattle.claims.proofs.LiftLaws.{Upward, lift-sound, lift-upward, liftAll, liftAll-sound, listed, lower-fits, taken-back}
@@ -248,4 +248,7 @@ still-all p r x _ _ _ _ = go (lower x)
     go (m ∷ ms) = (refl, go ms)
 
 pub proved-round-trip : RoundTrip
-proved-round-trip = proved-round-trip-gated all-pass tableUp open-gate still-all
+unfolding runUp runDown
+proved-round-trip =
+    let r = proved-round-trip-gated all-pass tableUp open-gate still-all in
+    record { calls = r; runs = r }

@@ -15,7 +15,7 @@ use Rattle.voice.specs.Lower.{lower}
 use Rattle.voice.specs.Call.{Call, leftOf, sentOf, within}
 use Rattle.voice.specs.Packet.{callDown, first}
 use Rattle.quernbrae.specs.Run.{run}
-use Rattle.quernbrae.specs.Table.{tableUp}
+use Rattle.quernbrae.specs.Table.{runDown, runUp, tableUp}
 use Rattle.claims.specs.Runs.{All}
 
 -- Any stream, up from a fresh table, down, and up again from a fresh table, each in an output with room for all (answer 9 in none): the
@@ -28,9 +28,14 @@ Returns up =
     let z = run (within up) (c, fresh) (cut (y .sent)) in
     (x .answer ≡ 9 → ⊥) → (y .answer ≡ 9 → ⊥) → (z .answer ≡ 9 → ⊥) → z .sent ≡ x .sent
 
--- Demand 3: of the calls up and down.
-abbrev pub RoundTrip : Type 0
-RoundTrip = Returns tableUp
+-- Demand 3: of the calls up and down, and so of the runs that the functions promise.
+pub record RoundTrip : Type 0 where
+  pub calls : Returns tableUp
+  pub runs : (s : List ℕ) (a b c : ℕ) →
+      let x = runUp a fresh s in
+      let y = runDown b (x .sent) in
+      let z = runUp c fresh (y .sent) in
+      (x .answer ≡ 9 → ⊥) → (y .answer ≡ 9 → ⊥) → (z .answer ≡ 9 → ⊥) → z .sent ≡ x .sent
 
 -- A step up with a rule about which packets may pass, read off the packet that stands first. What passes goes up as before. What does not
 -- is refused: nothing is sent, and the table stays.

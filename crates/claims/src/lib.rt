@@ -6,26 +6,32 @@ ghost use Rattle.claims.specs.Refusals.{Refusals};
 ghost use Rattle.claims.specs.Room.{Room};
 ghost use Rattle.claims.specs.RoundTrip.{RoundTrip, RoundTripGated};
 
+// Demand 1: a refusal only in its case, in the order of the list.
 pub fn refusals()
     ensures { λ _. ⌜ Refusals ⌝ }
 {}
 
+// Demand 2: a run is the calls of its packets.
 pub fn packet_by_packet()
     ensures { λ _. ⌜ PacketByPacket ⌝ }
 {}
 
+// Demand 3: up, down and up again sends the same words.
 pub fn round_trip()
     ensures { λ _. ⌜ RoundTrip ⌝ }
 {}
 
+// Demand 3 with a rule about which packets may pass.
 pub fn round_trip_gated()
     ensures { λ _. ⌜ RoundTripGated ⌝ }
 {}
 
+// What demand 3 makes of the stream in the middle.
 pub fn normal_form()
     ensures { λ _. ⌜ NormalForm ⌝ }
 {}
 
+// How long an output has to be.
 pub fn room()
     ensures { λ _. ⌜ Room ⌝ }
 {}
