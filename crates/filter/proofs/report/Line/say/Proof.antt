@@ -1,0 +1,20 @@
+-- `filter::report::Line::say` is safe: a line has 256 bytes, of which the first are written. Assumes nothing.
+use mathlib.Core.Path.{_≡_, sym}
+use native.Mathlib.Omega.{arith}
+use borrow.Author.Needs.{needs}
+use lib.ListN.{length}
+use lib.Seq.{length-take-le}
+use Rattle.filter.proofs.report.Line.say.Statement.{statement}
+use Rattle.filter.proofs.report.Line.say.Tie as tie
+
+long : (c : tie.Start) → length (c .args .self .bytes) ≡ 256
+long c = search needs
+
+pub say-spec : {M : Type 1} → statement M
+say-spec =
+    tie.close
+    (tie.spec
+    (λ c. omega (arith, long (c .before)))
+    (λ c. let s = c .before .before in sym (length-take-le (s .args .self .len) (s .args .self .bytes) (omega (arith, long s))))
+    (λ c κs. search needs)
+    (λ c. search needs))

@@ -1,0 +1,27 @@
+-- `filter::report::Line::with_refusals` keeps the line within its bytes. The measure is the answers to come. Assumes nothing.
+use Prim.Native.Nat.{_-_, _≤_}
+use mathlib.Core.Logic.{⊎-elim}
+use native.Mathlib.Omega.{arith}
+use Rattle.filter.proofs.report.Line.with_refusals.Statement.{statement}
+use Rattle.filter.proofs.report.Line.with_refusals.Tie as tie
+
+abbrev Inv-loop : tie.InvT-loop
+Inv-loop counts line₀ first₀ answer₀ line first answer = (line .len ≤ 256) × (answer ≤ 8)
+
+abbrev μ-loop : tie.MeasureT-loop
+μ-loop counts line₀ first₀ answer₀ line first answer = 8 - answer
+
+pub with-refusals-spec : {M : Type 1} → statement M
+with-refusals-spec =
+    tie.close
+    (tie.spec
+    Inv-loop
+    μ-loop
+    (λ c. (omega arith, omega arith))
+    (λ c. omega arith)
+    (λ c. omega arith)
+    (λ c κs. omega arith)
+    (λ c. omega arith)
+    (λ c. omega arith)
+    (λ c. (⊎-elim (λ w. rw (w .2) (w .1 .ensures)) (λ w. rw (w .1) (c .before .before .loop .inv .0)) (c .if1 .came), omega arith))
+    (λ c. omega arith))
