@@ -1,5 +1,5 @@
 -- Messages: what going up can send, and that going up undoes going down, record by record. Assumes nothing.
-use Prim.Native.Nat.{ℕ, _+_, _*_, _/_, _^_, _<_, _≤_}
+use Prim.Native.Nat.{ℕ, _+_, _*_, _/_, _%_, _^_, _<_, _≤_}
 use mathlib.Core.Path.{_≡_, refl, sym, _∙_}
 use mathlib.Core.Bool.{Bool, true, false, _&&_}
 use mathlib.Core.Option.{Option, none, some}
@@ -14,11 +14,11 @@ use Rattle.channel.specs.declared.Record.{Record}
 use Rattle.channel.specs.Record.{dataHighPresent, kept, missing, present, sound, withDataHigh}
 use Rattle.channel.proofs.Bools.{and-left, and-right, or-false}
 use Rattle.channel.proofs.Sound.{opened, parts, proved-stays-sound}
-use Rattle.voice.specs.declared.Control.{Control}
-use Rattle.voice.specs.declared.Control.the-variants.{AssignableBank, AssignableIndex, BankHigh, BankLow, DataHigh, DataLow, Nothing, Plain, RegisteredBank, RegisteredIndex}
-use Rattle.voice.specs.Message.{Bank, Fits1, Midi1, Midi2, assignable2, assignablePerNote2, bank, channelPressure1, channelPressure2, controlChange1, controlChange2, noBank, noteOff1, noteOff2, noteOn1, noteOn2, perNoteManagement2, perNotePitchBend2, pitchBend1, pitchBend2, polyPressure1, polyPressure2, programChange1, programChange2, registered2, registeredPerNote2, relativeAssignable2, relativeRegistered2}
-use Rattle.voice.specs.Lift.{Lifted, addressed2, banked2, controlOf, controlled, dataLow, lift}
-use Rattle.voice.specs.Lower.{formless, lower, sounding}
+use Rattle.lift.specs.declared.Control.{Control}
+use Rattle.lift.specs.declared.Control.the-variants.{AssignableBank, AssignableIndex, BankHigh, BankLow, DataHigh, DataLow, Nothing, Plain, RegisteredBank, RegisteredIndex}
+use Rattle.message.specs.Message.{Bank, Fits1, Midi1, Midi2, assignable2, assignablePerNote2, bank, channelPressure1, channelPressure2, controlChange1, controlChange2, noBank, noteOff1, noteOff2, noteOn1, noteOn2, perNoteManagement2, perNotePitchBend2, pitchBend1, pitchBend2, polyPressure1, polyPressure2, programChange1, programChange2, registered2, registeredPerNote2, relativeAssignable2, relativeRegistered2}
+use Rattle.lift.specs.Lift.{Lifted, addressed2, banked2, controlOf, controlled, dataLow, lift}
+use Rattle.lower.specs.Lower.{formless, lower, sounding}
 use Rattle.claims.specs.Runs.{All}
 use Rattle.claims.proofs.RunLaws.{choose}
 
@@ -59,7 +59,7 @@ module _ (r : Record) (ok : sound r ≡ true) where
   data-low-upward v h =
       choose (λ (x : Lifted). Holds Upward (x .sends)) (dataHighPresent r)
       (λ p. let o = opened r ok p in
-      let x = scaled 14 32 (r .«data_high» * 128 + v) (omega arith) in
+      let x = scaled 14 32 ((r .«data_high» * 128 + v) % 2 ^ 14) (omega arith) in
       choose Upward (eqb (r .kind) 1) (λ k. (o .bank-small, o .index-small, rw k at (o .not-null), x)) (λ k. (o .bank-small, o .index-small, x)))
       (λ _. tt)
 
@@ -180,10 +180,12 @@ taken-back r (registeredPerNote2 n i v) w h = absurd h
 taken-back r (assignablePerNote2 n i v) w h = absurd h
 taken-back r (registered2 b i v) w h =
     let x = down 32 14 v in
-    rw (h .2) (simp (withDataHigh, dataLow, addressed2, kept, h .2, ne-eqb b 255 (λ e. omega arith), ne-eqb i 255 (λ e. omega arith), ne-eqb (x / 128) 255 (λ e. omega arith), div-add-mod' x 128, h .3 .1) (refl, w))
+    let f : x % 2 ^ 14 ≡ x = omega (arith, h .3 .0) in
+    rw (h .2) (simp (withDataHigh, dataLow, addressed2, kept, h .2, ne-eqb b 255 (λ e. omega arith), ne-eqb i 255 (λ e. omega arith), ne-eqb (x / 128) 255 (λ e. omega arith), div-add-mod' x 128, f, h .3 .1) (refl, w))
 taken-back r (assignable2 b i v) w h =
     let x = down 32 14 v in
-    simp (withDataHigh, dataLow, addressed2, kept, ne-eqb b 255 (λ e. omega arith), ne-eqb i 255 (λ e. omega arith), ne-eqb (x / 128) 255 (λ e. omega arith), div-add-mod' x 128, h .2 .1) (refl, w)
+    let f : x % 2 ^ 14 ≡ x = omega (arith, h .2 .0) in
+    simp (withDataHigh, dataLow, addressed2, kept, ne-eqb b 255 (λ e. omega arith), ne-eqb i 255 (λ e. omega arith), ne-eqb (x / 128) 255 (λ e. omega arith), div-add-mod' x 128, f, h .2 .1) (refl, w)
 taken-back r (relativeRegistered2 b i v) w h = absurd h
 taken-back r (relativeAssignable2 b i v) w h = absurd h
 taken-back r (perNotePitchBend2 n v) w h = absurd h

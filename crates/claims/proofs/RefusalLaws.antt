@@ -13,8 +13,8 @@ use Rattle.ump.specs.Packet.{packet, size}
 use Rattle.ump.proofs.PacketLaws.{packet-four}
 use Rattle.channel.specs.declared.Record.{Record}
 use Rattle.channel.specs.Record.{empty, sound}
-use Rattle.voice.specs.Message.{read2, write1, write2}
-use Rattle.voice.specs.Lower.{lower}
+use Rattle.message.specs.Message.{read2, write1, write2}
+use Rattle.lower.specs.Lower.{lower}
 use Rattle.voice.specs.Call.{Call, answerOf, fit, leftOf, sentOf, stopped, went, within}
 use Rattle.voice.specs.Packet.{callDown, first, second}
 use Rattle.voice.proofs.ActLaws.{few-down}

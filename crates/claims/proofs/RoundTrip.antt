@@ -18,12 +18,12 @@ use Rattle.ump.proofs.PacketLaws.{packet-whole}
 use Rattle.channel.specs.declared.Record.{Record}
 use Rattle.channel.specs.Record.{empty, fresh, missing, sound}
 use Rattle.channel.proofs.Sound.{proved-stays-sound}
-use Rattle.voice.specs.Message.{Fits1, Midi1, Midi2, read1, write1, write2}
-use Rattle.voice.specs.Lift.{lift}
-use Rattle.voice.specs.Lower.{lower}
+use Rattle.message.specs.Message.{Fits1, Midi1, Midi2, read1, write1, write2}
+use Rattle.lift.specs.Lift.{lift}
+use Rattle.lower.specs.Lower.{lower}
 use Rattle.voice.specs.Call.{Call, leftOf, sentOf, stopped, went, within}
 use Rattle.voice.specs.Packet.{callDown, callUp, first, packetDown, packetUp, sending, sendingDown, speakDown, speakUp}
-use Rattle.voice.proofs.MessageLaws.{place1, place2, read1-write1, read2-write2}
+use Rattle.message.proofs.MessageLaws.{place1, place2, read1-write1, read2-write2}
 use Rattle.quernbrae.specs.Run.{run}
 use Rattle.quernbrae.specs.Table.{placeOf, runDown, runUp, stored, tableUp}
 use Rattle.claims.specs.RoundTrip.{Gated, RoundTrip, RoundTripGated, StillPasses}

@@ -12,8 +12,8 @@ use Rattle.ump.specs.Check.{fields, goodStatus}
 use Rattle.ump.specs.Check as Check
 use Rattle.channel.specs.declared.Record.{Record}
 use Rattle.channel.specs.Record.{empty, sound}
-use Rattle.voice.specs.Message.{read2}
-use Rattle.voice.specs.Lower.{lower}
+use Rattle.message.specs.Message.{read2}
+use Rattle.lower.specs.Lower.{lower}
 use Rattle.voice.specs.Call.{Call, answerOf, leftOf, readOf, sentOf, within}
 use Rattle.voice.specs.Packet.{callDown, first, second}
 use Rattle.quernbrae.specs.Table.{placeOf, tableUp}

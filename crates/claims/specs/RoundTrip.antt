@@ -9,9 +9,9 @@ use Rattle.ump.specs.Word.{channelOf, groupOf, messageType}
 use Rattle.ump.specs.Packet.{cut, packet}
 use Rattle.channel.specs.declared.Record.{Record}
 use Rattle.channel.specs.Record.{fresh, sound}
-use Rattle.voice.specs.Message.{Midi1, Midi2, read1, write1}
-use Rattle.voice.specs.Lift.{lift}
-use Rattle.voice.specs.Lower.{lower}
+use Rattle.message.specs.Message.{Midi1, Midi2, read1, write1}
+use Rattle.lift.specs.Lift.{lift}
+use Rattle.lower.specs.Lower.{lower}
 use Rattle.voice.specs.Call.{Call, leftOf, sentOf, within}
 use Rattle.voice.specs.Packet.{callDown, first}
 use Rattle.quernbrae.specs.Run.{run}

@@ -19,9 +19,9 @@ use Rattle.ump.specs.Packet.{packet, size}
 use Rattle.ump.proofs.PacketLaws.{packet-near, packet-size, size-range}
 use Rattle.channel.specs.declared.Record.{Record}
 use Rattle.channel.specs.Record.{empty, sound}
-use Rattle.voice.specs.Message.{Midi1, Midi2, read1, read2}
-use Rattle.voice.specs.Lift.{lift}
-use Rattle.voice.specs.Lower.{lower}
+use Rattle.message.specs.Message.{Midi1, Midi2, read1, read2}
+use Rattle.lift.specs.Lift.{lift}
+use Rattle.lower.specs.Lower.{lower}
 use Rattle.voice.specs.Call.{Call, answerOf, fit, leftOf, readOf, sentOf, stopped, went}
 use Rattle.voice.specs.Packet.{callDown, callUp, checked, first, found, packetDown, packetUp, second, sending, sendingDown, speakDown, speakUp, staged}
 use Rattle.quernbrae.specs.Table.{placeOf, stored, tableUp}

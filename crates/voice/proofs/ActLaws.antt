@@ -8,7 +8,6 @@ use Prim.Native.Nat.{ℕ, _-_, _≤_}
 use native.Mathlib.Omega.{arith}
 use lib.Dec.{eqb, leb, leb·zero}
 use lib.ListN.{length, length-map}
-use Rattle.scale.specs.Scale.{down}
 use Rattle.ump.specs.declared.Group.{Group}
 use Rattle.ump.specs.declared.Channel.{Channel}
 use Rattle.ump.specs.declared.Typed.{Typed}
@@ -21,15 +20,18 @@ use Rattle.channel.specs.declared.Record.{Record}
 use Rattle.channel.specs.Record.{sound}
 use Rattle.voice.specs.declared.Acted.{Acted}
 use Rattle.voice.specs.declared.Done.{Done}
-use Rattle.voice.specs.declared.Sent.{Sent}
+use Rattle.lower.specs.declared.Sent.{Sent}
 use Rattle.voice.specs.declared.Upped.{Upped}
-use Rattle.voice.specs.declared.Voiced.{Voiced}
-use Rattle.voice.specs.Message.{Bank, Midi1, Midi2, assignable2, assignablePerNote2, bank, channelPressure2, controlChange1, controlChange2, noBank, noteOff2, noteOn2, perNoteManagement2, perNotePitchBend2, pitchBend2, polyPressure2, programChange2, read1, read2, registered2, registeredPerNote2, relativeAssignable2, relativeRegistered2, write1}
-use Rattle.voice.specs.Lift.{lift}
-use Rattle.voice.specs.Lower.{formless, entered, lower}
+use Rattle.lift.specs.declared.Voiced.{Voiced}
+use Rattle.message.specs.Message.{Midi1, Midi2, read1, read2, write1}
+use Rattle.lift.specs.Lift.{lift}
+use Rattle.lower.specs.Lower.{lower}
 use Rattle.voice.specs.Call.{Call, fit, leftOf, sentOf, stopped, went}
 use Rattle.voice.specs.Packet.{checked, first, found, packetDown, packetUp, second, sending, sendingDown, speakDown, speakUp, staged}
-use Rattle.voice.specs.Output.{acted, actedUp, done, packed, voiced, voicedBy, wordsOf, written}
+use Rattle.lift.specs.Values.{voiced, voicedBy}
+use Rattle.lower.specs.Values.{packed}
+use Rattle.lower.proofs.LowerLaws.{lower-few}
+use Rattle.voice.specs.Output.{acted, actedUp, done, wordsOf, written}
 use Rattle.voice.proofs.OutputLaws.{Put, packed-words, written-none}
 
 -- a MIDI 1.0 message that sends, and one that is taken in
@@ -106,33 +108,6 @@ few-up r p h =
     go : (o : Option Midi2) → Few (sending (groupOf (first p)) (channelOf (first p)) (lift r (read1 (first p)) .after) o)
     go none = omega arith
     go (some m) = omega arith
-
-lower-few : (m : Midi2) → length (lower m) ≤ 4
-unfolding lower
-lower-few (registeredPerNote2 n i v) = omega arith
-lower-few (assignablePerNote2 n i v) = omega arith
-lower-few (registered2 b i v) = go (eqb b 127 && eqb i 127)
-  where
-    go : (t : Bool) → length (cond t [] (entered 101 b 100 i (down 32 14 v))) ≤ 4
-    go true = omega arith
-    go false = omega arith
-lower-few (assignable2 b i v) = omega arith
-lower-few (relativeRegistered2 b i v) = omega arith
-lower-few (relativeAssignable2 b i v) = omega arith
-lower-few (perNotePitchBend2 n v) = omega arith
-lower-few (noteOff2 n v) = omega arith
-lower-few (noteOn2 n v) = omega arith
-lower-few (polyPressure2 n v) = omega arith
-lower-few (controlChange2 i v) = go (formless i)
-  where
-    go : (t : Bool) → length (cond t [] (controlChange1 i (down 32 7 v) ∷ [])) ≤ 4
-    go true = omega arith
-    go false = omega arith
-lower-few (perNoteManagement2 n f) = omega arith
-lower-few (programChange2 p noBank) = omega arith
-lower-few (programChange2 p (bank h l)) = omega arith
-lower-few (channelPressure2 v) = omega arith
-lower-few (pitchBend2 v) = omega arith
 
 pub few-down : (p : List ℕ) → length p ≤ 4 → length (sentOf (packetDown p)) ≤ 4
 unfolding packetDown speakDown Few

@@ -6,12 +6,12 @@ use Prim.Native.Nat.{ℕ, zero, suc, _+_, _-_, _≤_, _<_}
 use native.Mathlib.Omega.{arith}
 use native.Mathlib.Nat.{add-zero}
 use borrow.Author.Tests.{le-leb, lt-leb}
-use lib.Dec.{eqb, leb}
+use lib.Dec.{leb}
 use lib.ListN.{length, getD, take, drop, set, length-take, take-append-drop}
 use lib.Seq.{sets, sets-eq, take-all}
-use Rattle.voice.specs.declared.Sent.{Sent}
-use Rattle.voice.specs.Lower.{sounding}
-use Rattle.voice.specs.Output.{packed, wordsOf, written}
+use Rattle.lower.specs.declared.Sent.{Sent}
+use Rattle.lower.specs.Values.{packed}
+use Rattle.voice.specs.Output.{wordsOf, written}
 
 -- what storing answers, and what the output then holds
 abbrev pub Put : Sent → ℕ → List ℕ → Bool → List ℕ → Type 0
@@ -58,12 +58,3 @@ packed-words (a ∷ b ∷ c ∷ d ∷ e ∷ ws) h = absurd (omega arith)
 -- a number of words that is none of 1, 2, 3 and not 0, and at most 4
 pub four : (n : ℕ) → n ≤ 4 → (n ≡ 0 → ⊥) → (n ≡ 1 → ⊥) → (n ≡ 2 → ⊥) → (n ≡ 3 → ⊥) → n ≡ 4
 four n h a b c d = omega arith
-
--- a velocity that sounds still has seven bits
-pub sounding-lt : (v : ℕ) → v < 128 → sounding v < 128
-unfolding sounding
-sounding-lt v h = go (eqb v 0)
-  where
-    go : (b : Bool) → cond b 1 v < 128
-    go true = omega arith
-    go false = h

@@ -16,9 +16,9 @@ use Rattle.ump.specs.Types.{typeDown, typeUp}
 use Rattle.ump.specs.Check.{check}
 use Rattle.channel.specs.declared.Record.{Record}
 use Rattle.channel.specs.Record.{sound}
-use Rattle.voice.specs.Message.{Midi1, Midi2, read1, read2, write1, write2}
-use Rattle.voice.specs.Lift.{Lifted, lift}
-use Rattle.voice.specs.Lower.{lower}
+use Rattle.message.specs.Message.{Midi1, Midi2, read1, read2, write1, write2}
+use Rattle.lift.specs.Lift.{Lifted, lift}
+use Rattle.lower.specs.Lower.{lower}
 use Rattle.voice.specs.Call.{Call, stopped, went}
 
 -- after the check: 6 and 7, or what the packet does

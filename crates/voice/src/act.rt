@@ -13,12 +13,9 @@ use crate::SENT;
 use crate::TAKEN_IN;
 use crate::Upped;
 use crate::WRONG_PROTOCOL;
-use crate::lift::voice;
-use crate::lower::voice_down;
-use crate::output::no_words;
 use crate::output::put;
 use crate::output::same_words;
-use crate::output::two_words;
+use crate::output::up_to_two;
 use crate::output::word_at;
 use channel::Record;
 use ump::Checked;
@@ -31,7 +28,8 @@ ghost use Rattle.ump.specs.Packet.{packet};
 ghost use Rattle.ump.specs.Word.{messageType};
 ghost use Rattle.voice.specs.Call.{fit, sentOf};
 ghost use Rattle.voice.specs.Packet.{first, found, onwardOf, packetDown, packetUp, speakDown, speakUp, voiceDownOf, voiceUpOf};
-ghost use Rattle.voice.specs.Output.{acted, actedUp, done, packed, upped, written};
+ghost use Rattle.lower.specs.Values.{packed};
+ghost use Rattle.voice.specs.Output.{acted, actedUp, done, upped, written};
 
 fn nothing(answer: u32, read: usize) -> Acted
     ensures { λ r. ⌜ r ≡ record { answer = answer; read = read; sent = packed [] } ⌝ }
@@ -39,7 +37,7 @@ fn nothing(answer: u32, read: usize) -> Acted
     Acted {
         answer,
         read,
-        sent: no_words(),
+        sent: up_to_two(0, 0, 0),
     }
 }
 
@@ -78,10 +76,10 @@ fn speak_up(n: usize, record: Record, w: u32) -> ActedUp
     ensures { λ r. ⌜ r ≡ actedUp n «record» (speakUp «record» w) ⌝ }
 {
     if record.is_sound() {
-        let v = voice(record, w);
+        let v = lift::lifted(record, w);
         let after = v.after;
         if v.sends {
-            let sent = two_words(v.a, v.b);
+            let sent = up_to_two(2, v.a, v.b);
             ActedUp {
                 after,
                 acted: Acted {
@@ -131,7 +129,7 @@ fn act_up(packet: &[u32], record: Record) -> ActedUp
 fn speak_down(n: usize, w: u32, v: u32) -> Acted
     ensures { λ r. ⌜ r ≡ acted n (speakDown w v) ⌝ }
 {
-    let sent = voice_down(w, v);
+    let sent = lower::lowered(w, v);
     if sent.count == 0 {
         nothing(NO_FORM, n)
     } else {

@@ -3,15 +3,13 @@
 // A packet passes cut, type, check and act. No function has a `requires`, and each says what it
 // answers, reads and writes, what record it leaves and what the output holds after, on every input.
 mod act;
-mod lift;
-mod lower;
 mod output;
 
 pub use act::down;
 pub use act::up;
 use channel::Record;
+use lower::Sent;
 ghost use Rattle.voice.specs.Examples.{Examples};
-ghost use Rattle.voice.specs.Message.{ReadsBack};
 
 // The answers, by the specification's numbers.
 pub const SENT: u32 = 0;
@@ -50,15 +48,6 @@ pub struct Upped {
     pub done: Done,
 }
 
-// Up to four words, as values.
-pub struct Sent {
-    pub count: usize,
-    pub a: u32,
-    pub b: u32,
-    pub c: u32,
-    pub d: u32,
-}
-
 // What a packet does, before the output's room is asked.
 pub struct Acted {
     pub answer: u32,
@@ -71,34 +60,7 @@ pub struct ActedUp {
     pub acted: Acted,
 }
 
-// A MIDI 1.0 message translated: the record after, and the two words of a MIDI 2.0 message or none.
-pub struct Voiced {
-    pub after: Record,
-    pub sends: bool,
-    pub a: u32,
-    pub b: u32,
-}
-
-// What a control change does, going up.
-pub enum Control {
-    BankHigh,
-    BankLow,
-    RegisteredBank,
-    RegisteredIndex,
-    AssignableBank,
-    AssignableIndex,
-    DataHigh,
-    DataLow,
-    Nothing,
-    Plain,
-}
-
 // The examples that the specification marks P.
 pub fn examples()
     ensures { λ _. ⌜ Examples ⌝ }
-{}
-
-// What is written reads back as itself, for every message of the two protocols.
-pub fn reads_back()
-    ensures { λ _. ⌜ ReadsBack ⌝ }
 {}

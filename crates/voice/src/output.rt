@@ -1,24 +1,12 @@
-// Words: building them, and storing up to four into a lent output.
-use crate::Sent;
+// Up to four words: as values, and stored into a lent output.
+use lower::Sent;
 ghost use mathlib.Core.Path.{_≡_};
 ghost use mathlib.Core.Bool.{cond};
-ghost use Prim.Native.Nat.{_-_, _<_, _≤_};
-ghost use mathlib.Core.List.{[], _∷_};
+ghost use Prim.Native.Nat.{_-_, _≤_};
 ghost use lib.Dec.{leb};
 ghost use lib.ListN.{getD, length};
-ghost use Rattle.ump.specs.Word.{channelOf, groupOf};
-ghost use Rattle.voice.specs.Message.{voiceWord};
-ghost use Rattle.voice.specs.Output.{packed, wordsOf, written};
-
-// A word of type t in the group and channel of w.
-pub(crate) fn voice_word(t: u32, status: u32, a: u32, b: u32, w: u32) -> u32
-    requires { ⌜ (t < 16) × (status < 16) × (a < 256) × (b < 256) ⌝ }
-    ensures { λ r. ⌜ r ≡ voiceWord t (groupOf w) status (channelOf w) a b ⌝ }
-{
-    let g = ump::group_of(w);
-    let c = ump::channel_of(w);
-    t * 268435456 + (g.0 as u32) * 16777216 + status * 1048576 + (c.0 as u32) * 65536 + a * 256 + b
-}
+ghost use Rattle.lower.specs.Values.{packed};
+ghost use Rattle.voice.specs.Output.{wordsOf, written};
 
 // The word at i, 0 past the end.
 pub(crate) fn word_at(p: &[u32], i: usize) -> u32
@@ -27,23 +15,12 @@ pub(crate) fn word_at(p: &[u32], i: usize) -> u32
     if i < p.len() { p[i] } else { 0 }
 }
 
-pub(crate) fn no_words() -> Sent
-    ensures { λ r. ⌜ r ≡ packed [] ⌝ }
+// No word, or two.
+pub(crate) fn up_to_two(count: usize, a: u32, b: u32) -> Sent
+    ensures { λ r. ⌜ r ≡ record { count = count; a = a; b = b; c = 0; d = 0 } ⌝ }
 {
     Sent {
-        count: 0,
-        a: 0,
-        b: 0,
-        c: 0,
-        d: 0,
-    }
-}
-
-pub(crate) fn two_words(a: u32, b: u32) -> Sent
-    ensures { λ r. ⌜ r ≡ packed (a ∷ b ∷ []) ⌝ }
-{
-    Sent {
-        count: 2,
+        count,
         a,
         b,
         c: 0,

@@ -5,9 +5,9 @@ use Rattle.ump.specs.Packet.{packet, size}
 use Rattle.ump.specs.Types.{typed}
 use Rattle.ump.specs.Check.{check, fields, goodStatus, voice1Fields, voice2Fields, within}
 use Rattle.channel.specs.Record.{kept, sound, withDataHigh}
-use Rattle.voice.specs.Message.{bankOf, first2, read1, read2, second2, write1}
-use Rattle.voice.specs.Lift.{addressed2, banked2, controlOf, controlled, dataLow, lift}
-use Rattle.voice.specs.Lower.{lower, sounding}
+use Rattle.message.specs.Message.{bankOf, first2, read1, read2, second2, write1}
+use Rattle.lift.specs.Lift.{addressed2, banked2, controlOf, controlled, dataLow, lift}
+use Rattle.lower.specs.Lower.{lower, sounding}
 use Rattle.voice.specs.Packet.{callDown, callUp, packetDown, packetUp, speakDown, speakUp}
 use Rattle.voice.specs.Examples.{Examples, examples, goingDown, goingUp}
 use Rattle.voice.proofs.examples.Statement.{statement}

@@ -8,4 +8,4 @@ nothing-spec =
     tie.close
     (tie.spec
     (λ c κs. search needs)
-    (λ c. simp (c .no-words .ensures)))
+    (λ c. simp (c .up-to-two .ensures)))

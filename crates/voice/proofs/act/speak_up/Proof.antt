@@ -9,11 +9,11 @@ use Rattle.voice.proofs.act.speak_up.Tie as tie
 is-sound-requires : tie.Need-is-sound-requires
 is-sound-requires c κs = search needs
 
-voice-requires : tie.Need-voice-requires
-voice-requires c κs = sym (c .before .is-sound .ensures) ∙ c .if1 .taken
+lifted-requires : tie.Need-lifted-requires
+lifted-requires c κs = search needs
 
-two-words-requires : tie.Need-two-words-requires
-two-words-requires c κs = search needs
+up-to-two-requires : tie.Need-up-to-two-requires
+up-to-two-requires c κs = search needs
 
 nothing-requires : tie.Need-nothing-requires
 nothing-requires c κs = search needs
@@ -31,13 +31,13 @@ returns : tie.Need-returns
 returns c =
     let a = c .before .before .before .before .before .before .args in
     let ok = sym (c .before .before .before .before .before .is-sound .ensures) ∙ c .before .before .before .before .if1 .taken in
-    simp (c .two-words .ensures) (speaks (a .n) (a .«record») (a .w) (c .before .before .before .voice .result) ok (c .before .before .before .voice .ensures) (c .before .if2 .taken))
+    simp (c .up-to-two .ensures) (speaks (a .n) (a .«record») (a .w) (c .before .before .before .lifted .result) ok (c .before .before .before .lifted .ensures) (c .before .if2 .taken))
 
 returns-2 : tie.Need-returns-2
 returns-2 c =
     let a = c .before .before .before .before .before .before .before .args in
     let ok = sym (c .before .before .before .before .before .before .is-sound .ensures) ∙ c .before .before .before .before .before .if1 .taken in
-    simp (c .unchanged .ensures, c .before .nothing .ensures) (takes-in (a .n) (a .«record») (a .w) (c .before .before .before .before .voice .result) ok (c .before .before .before .before .voice .ensures) (c .before .before .if2 .left))
+    simp (c .unchanged .ensures, c .before .nothing .ensures) (takes-in (a .n) (a .«record») (a .w) (c .before .before .before .before .lifted .result) ok (c .before .before .before .before .lifted .ensures) (c .before .before .if2 .left))
 
 returns-3 : tie.Need-returns-3
 unfolding speakUp
@@ -48,8 +48,8 @@ speak-up-spec =
     tie.close
     (tie.spec
     is-sound-requires
-    voice-requires
-    two-words-requires
+    lifted-requires
+    up-to-two-requires
     nothing-requires
     unchanged-requires
     nothing-requires-2

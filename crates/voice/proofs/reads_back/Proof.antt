@@ -1,7 +1,0 @@
--- `voice::reads_back` meets its contract: the laws are proved in proofs/MessageLaws.antt. Assumes nothing.
-use Rattle.voice.proofs.MessageLaws.{proved-reads-back}
-use Rattle.voice.proofs.reads_back.Statement.{statement}
-use Rattle.voice.proofs.reads_back.Tie as tie
-
-pub reads-back-spec : {M : Type 1} → statement M
-reads-back-spec = tie.close (tie.spec (λ c. proved-reads-back))
