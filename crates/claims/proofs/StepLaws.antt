@@ -10,13 +10,13 @@ use lib.Seq.{set-getD}
 use lib.Dec.{eqb, eqb·suc-zero, leb}
 use borrow.Author.Tests.{eqb-true, leb-true}
 use Rattle.ump.specs.declared.Typed.{Typed}
-use Rattle.ump.specs.declared.Checked.{Checked}
-use Rattle.ump.specs.declared.Checked.the-variants.{Good}
+use Rattle.checks.specs.declared.Checked.{Checked}
+use Rattle.checks.specs.declared.Checked.the-variants.{Good}
 use Rattle.ump.specs.Word.{channelOf, groupOf, messageType}
 use Rattle.ump.specs.Packet.{Whole, packet, size}
 use Rattle.ump.specs.Types.{reserved, typed}
-use Rattle.ump.specs.Check.{check, fields, goodStatus}
-use Rattle.ump.specs.Check as Check
+use Rattle.checks.specs.Check.{check, fields, goodStatus}
+use Rattle.checks.specs.Check as Check
 use Rattle.ump.proofs.PacketLaws.{packet-four, packet-length, size-range}
 use Rattle.channel.specs.declared.Record.{Record}
 use Rattle.channel.specs.Record.{empty, sound}

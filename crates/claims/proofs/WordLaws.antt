@@ -10,9 +10,9 @@ use Rattle.scale.specs.Scale.{down}
 use Rattle.scale.proofs.Laws.{up-lt}
 use Rattle.ump.specs.declared.Group.{Group}
 use Rattle.ump.specs.declared.Channel.{Channel}
-use Rattle.ump.specs.declared.Checked.the-variants.{BadData, Good}
+use Rattle.checks.specs.declared.Checked.the-variants.{BadData, Good}
 use Rattle.ump.specs.Word.{bankFlag, byte1, byte3, byte4, status}
-use Rattle.ump.specs.Check.{Field, check, fields, goodStatus, seven, voice1Fields, voice2Fields, within}
+use Rattle.checks.specs.Check.{Field, check, fields, goodStatus, seven, voice1Fields, voice2Fields, within}
 use Rattle.message.specs.Message.{Fits1, Fits2, Midi1, Midi2, assignable2, assignablePerNote2, bank, channelPressure1, channelPressure2, controlChange1, controlChange2, first2, noBank, noteOff1, noteOff2, noteOn1, noteOn2, perNoteManagement2, perNotePitchBend2, pitchBend1, pitchBend2, polyPressure1, polyPressure2, programChange1, programChange2, read1, registered2, registeredPerNote2, relativeAssignable2, relativeRegistered2, second2, voiceWord, write1}
 use Rattle.message.proofs.MessageLaws.{built}
 use Rattle.claims.proofs.LiftLaws.{Scaled, Upward}

@@ -8,8 +8,8 @@ use lib.Dec.{eqb, ltb}
 use Rattle.ump.specs.Word.{messageType}
 use Rattle.ump.specs.Packet.{packet, size}
 use Rattle.ump.specs.Types.{reserved}
-use Rattle.ump.specs.Check.{fields, goodStatus}
-use Rattle.ump.specs.Check as Check
+use Rattle.checks.specs.Check.{fields, goodStatus}
+use Rattle.checks.specs.Check as Check
 use Rattle.channel.specs.declared.Record.{Record}
 use Rattle.channel.specs.Record.{empty, sound}
 use Rattle.message.specs.Message.{read2}

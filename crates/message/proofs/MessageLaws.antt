@@ -8,9 +8,7 @@ use lib.Dec.{eqb, leb}
 use borrow.Author.Tests.{le-leb}
 use Rattle.ump.specs.declared.Group.{Group}
 use Rattle.ump.specs.declared.Channel.{Channel}
-use Rattle.ump.specs.declared.Checked.the-variants.{Good}
 use Rattle.ump.specs.Word.{bankFlag, bits, byte1, byte3, byte4, channelOf, data1, data2, groupOf, messageType, status}
-use Rattle.ump.specs.Check.{check, fields, goodStatus, voice1Fields, within}
 use Rattle.message.specs.Message.{Bank, Fits1, Fits2, Midi1, Midi2, ReadsBack, assignable2, assignablePerNote2, bank, bankOf, channelPressure1, channelPressure2, controlChange1, controlChange2, first2, noBank, noteOff1, noteOff2, noteOn1, noteOn2, perNoteManagement2, perNotePitchBend2, pitchBend1, pitchBend2, polyPressure1, polyPressure2, programChange1, programChange2, read1, read2, registered2, registeredPerNote2, relativeAssignable2, relativeRegistered2, second2, voiceWord, write1}
 
 -- the fields of a built word

@@ -31,7 +31,7 @@ use Rattle.quernbrae.specs.declared.Progress.{Progress}
 use Rattle.quernbrae.specs.declared.Stepped.{Stepped}
 use Rattle.quernbrae.specs.Loop.{State, callOf, oneO, oneP, oneT, outOf, placeAt, refusedOf, runOf, startOf, steppedOf, treated}
 use Rattle.quernbrae.proofs.Values.{R, valsR, madeR, P, valP, valsP, tellsP, madeP, S, valS, valsS, tellsS, D, valD, valsD, tellsD}
-use Rattle.quernbrae.proofs.Post.{result-is, result-with, left-one, left-two}
+use Rattle.reader.proofs.Post.{result-is, result-with, left-one, left-two}
 use Rattle.quernbrae.proofs.start as start
 use Rattle.quernbrae.proofs.place_of as place
 use Rattle.quernbrae.proofs.step as step

@@ -2,12 +2,10 @@ pub mod StepLaws
 pub mod Values
 pub mod More
 pub mod Again
-pub mod Post
 pub mod Calls
 pub mod Turns
 pub mod Said
 pub mod ArrayLent
-pub mod ReaderOwns
 pub mod RunLoop
 pub mod TableLaws
 pub mod LoopLaws

@@ -11,8 +11,8 @@ use lib.ListN.{getD, length, set, take}
 use lib.Seq.{length-take-le, set-getD}
 use Rattle.ump.specs.declared.Typed.{Typed}
 use Rattle.ump.specs.declared.Typed.the-variants.{Cut, Reserved, WrongProtocol, Voice, Onward}
-use Rattle.ump.specs.declared.Checked.{Checked}
-use Rattle.ump.specs.declared.Checked.the-variants.{Good, BadStatus, BadData}
+use Rattle.checks.specs.declared.Checked.{Checked}
+use Rattle.checks.specs.declared.Checked.the-variants.{Good, BadStatus, BadData}
 use Rattle.ump.specs.Word.{channelOf, groupOf}
 use Rattle.ump.specs.Types.{typeDown, typeUp, typed}
 use Rattle.ump.specs.Packet.{packet, size}

@@ -1,17 +1,10 @@
-// What a caller uses: one call and a run, up and down, over the table that the caller lends; a
-// reader of packets; and the names that C and Rust link (include/quernbrae.h).
+// What a caller uses: one call and a run, up and down, over the table that the caller lends, under
+// the names that C and Rust link (include/quernbrae.h).
 //
 // No function has a `requires`. Each contract gives the report, the table and the output at exit by
 // the definitions of specs/Run.antt and specs/Table.antt, on every input. The table is never copied:
 // a packet reads one record and stores one.
-mod reader;
-
 use channel::Record;
-pub use reader::Reader;
-pub use reader::first_packet_end;
-pub use reader::moved_on;
-pub use reader::packet;
-pub use reader::read_from;
 use voice::Done;
 ghost use mathlib.Core.Path.{_≡_};
 ghost use lib.ListN.{getD, length};

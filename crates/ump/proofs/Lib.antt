@@ -1,3 +1,2 @@
 pub mod PacketLaws
-pub mod FieldLaws
 pub mod TypeLaws

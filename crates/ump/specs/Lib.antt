@@ -1,4 +1,3 @@
 pub mod Word
 pub mod Packet
 pub mod Types
-pub mod Check

@@ -1,14 +1,11 @@
-// Universal MIDI Packets: the fields of a word, packets in a stream of words, and the two stages
-// that need no channel record: type (answers 3, 4 and 5) and check (answers 6 and 7).
+// Universal MIDI Packets: the fields of a word, packets in a stream of words, and the first stage
+// that a packet passes: type (answers 3, 4 and 5).
 //
 // Every function is total, and says what it answers by a definition of specs/.
-mod checks;
 mod packets;
 mod types;
 mod word;
 
-pub use checks::check;
-pub use checks::check_voice1;
 pub use packets::next_place;
 pub use packets::packet_at;
 pub use packets::size;
@@ -38,13 +35,4 @@ pub enum Typed {
     Voice,
     // Sent on unchanged.
     Onward,
-}
-
-// What the check stage finds of a packet.
-pub enum Checked {
-    Good,
-    // Bad status (6).
-    BadStatus,
-    // Bad data (7).
-    BadData,
 }

@@ -12,8 +12,8 @@ use Rattle.ump.specs.declared.Group.{Group}
 use Rattle.ump.specs.declared.Channel.{Channel}
 use Rattle.ump.specs.declared.Typed.{Typed}
 use Rattle.ump.specs.declared.Typed.the-variants.{Cut, Reserved, WrongProtocol, Voice, Onward}
-use Rattle.ump.specs.declared.Checked.{Checked}
-use Rattle.ump.specs.declared.Checked.the-variants.{Good, BadStatus, BadData}
+use Rattle.checks.specs.declared.Checked.{Checked}
+use Rattle.checks.specs.declared.Checked.the-variants.{Good, BadStatus, BadData}
 use Rattle.ump.specs.Word.{channelOf, groupOf}
 use Rattle.ump.specs.Types.{typeDown, typeUp}
 use Rattle.channel.specs.declared.Record.{Record}

@@ -8,12 +8,12 @@ use Rattle.ump.specs.declared.Group.{Group}
 use Rattle.ump.specs.declared.Channel.{Channel}
 use Rattle.ump.specs.declared.Typed.{Typed}
 use Rattle.ump.specs.declared.Typed.the-variants.{Cut, Reserved, WrongProtocol, Voice, Onward}
-use Rattle.ump.specs.declared.Checked.{Checked}
-use Rattle.ump.specs.declared.Checked.the-variants.{Good, BadStatus, BadData}
+use Rattle.checks.specs.declared.Checked.{Checked}
+use Rattle.checks.specs.declared.Checked.the-variants.{Good, BadStatus, BadData}
 use Rattle.ump.specs.Word.{channelOf, groupOf}
 use Rattle.ump.specs.Packet.{packet}
 use Rattle.ump.specs.Types.{typeDown, typeUp}
-use Rattle.ump.specs.Check.{check}
+use Rattle.checks.specs.Check.{check}
 use Rattle.channel.specs.declared.Record.{Record}
 use Rattle.channel.specs.Record.{sound}
 use Rattle.message.specs.Message.{Midi1, Midi2, read1, read2, write1, write2}

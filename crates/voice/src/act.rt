@@ -18,7 +18,7 @@ use crate::output::same_words;
 use crate::output::up_to_two;
 use crate::output::word_at;
 use channel::Record;
-use ump::Checked;
+use checks::Checked;
 use ump::Typed;
 ghost use mathlib.Core.Path.{_≡_};
 ghost use mathlib.Core.List.{[]};
@@ -51,7 +51,7 @@ fn unchanged(after: Record, acted: Acted) -> ActedUp
 fn check_of(packet: &[u32]) -> Checked
     ensures { λ r. ⌜ r ≡ found (now (packet .entry)) ⌝ }
 {
-    ump::check(word_at(packet, 0), word_at(packet, 1))
+    checks::check(word_at(packet, 0), word_at(packet, 1))
 }
 
 // A packet that is sent on unchanged, once it is checked.
@@ -102,7 +102,7 @@ fn voice_up(packet: &[u32], record: Record) -> ActedUp
 {
     let n = packet.len();
     let w = word_at(packet, 0);
-    let found = ump::check_voice1(w);
+    let found = checks::check_voice1(w);
     match found {
         Checked::Good => speak_up(n, record, w),
         Checked::BadStatus => unchanged(record, nothing(BAD_STATUS, n)),

@@ -54,7 +54,7 @@ use Rattle.voice.proofs.Done as TD
 use Rattle.voice.proofs.Done.Laws as TD′
 use Rattle.quernbrae.proofs.Values.{R, D, tyTable}
 use Rattle.quernbrae.proofs.More.{use6}
-use Rattle.quernbrae.proofs.Post.{left-two}
+use Rattle.reader.proofs.Post.{left-two}
 use Rattle.quernbrae.proofs.ArrayLent.{lends-array, array-back}
 use Rattle.quernbrae.proofs.Said.{RunSaid, fresh-said}
 use Rattle.quernbrae.proofs.quernbrae_run_up as run-up

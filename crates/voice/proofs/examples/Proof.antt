@@ -3,7 +3,7 @@ use mathlib.Core.Path.{refl}
 use Rattle.scale.specs.Scale.{fill, up}
 use Rattle.ump.specs.Packet.{packet, size}
 use Rattle.ump.specs.Types.{typed}
-use Rattle.ump.specs.Check.{check, fields, goodStatus, voice1Fields, voice2Fields, within}
+use Rattle.checks.specs.Check.{check, fields, goodStatus, voice1Fields, voice2Fields, within}
 use Rattle.channel.specs.Record.{kept, sound, withDataHigh}
 use Rattle.message.specs.Message.{bankOf, first2, read1, read2, second2, write1}
 use Rattle.lift.specs.Lift.{addressed2, banked2, controlOf, controlled, dataLow, lift}

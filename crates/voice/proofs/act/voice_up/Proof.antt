@@ -1,8 +1,8 @@
 -- `voice::act::voice_up` meets its contract: of MT 2 the check asks one word, and it decides whether the message speaks. Assumes nothing.
 use mathlib.Core.Path.{sym, _∙_, ap}
 use denote.Ref.{now}
-use Rattle.ump.specs.Check.{checkVoice1}
-use Rattle.ump.proofs.FieldLaws.{check-voice1}
+use Rattle.checks.specs.Check.{checkVoice1}
+use Rattle.checks.proofs.FieldLaws.{check-voice1}
 use Rattle.voice.specs.Packet.{first, second}
 use borrow.Author.Needs.{needs}
 use Rattle.voice.proofs.act.voice_up.Statement.{statement}
