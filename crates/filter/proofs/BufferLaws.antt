@@ -11,8 +11,8 @@ use Rattle.ump.proofs.PacketLaws.{size-range}
 use Rattle.voice.specs.declared.Done.{Done}
 use Rattle.voice.specs.Call.{Call, stopped, went}
 use Rattle.quernbrae.specs.Run.{atStart, reported, run, thenRun}
-use Rattle.text.specs.Words.{bytesOf, wordsOf}
-use Rattle.text.proofs.WordLaws.{bytes-length, slice-length, words-length}
+use Rattle.wire.specs.Words.{bytesOf, wordsOf}
+use Rattle.wire.proofs.WordLaws.{bytes-length, slice-length, words-length}
 
 -- the words of some packets
 abbrev total : List (List ℕ) → ℕ

@@ -95,7 +95,7 @@ fn sent_as_bytes(
     ensures { λ r. ⌜ (r .read ≡ done .read) × (r .bytes ≤ length (now (text .exit))) ⌝ }
 {
     let n = done.written;
-    let bytes = text::bytes_of(&sent[..n], text);
+    let bytes = wire::bytes_of(&sent[..n], text);
     let totals = totals.and(done, counts);
     Treated {
         table,
@@ -169,12 +169,12 @@ fn turn(
 {
     let got = read_more(bytes, s.left, s.waits);
     let have = got.have;
-    let n = text::words_of(&bytes[..have], words);
+    let n = wire::words_of(&bytes[..have], words);
     let table = s.table;
     let totals = s.totals;
     let treated = treat(kind, table, totals, &words[..n], sent, text);
     let failed = write_fails(text, treated.bytes);
-    let left = text::carry(bytes, 4 * treated.read, have);
+    let left = wire::carry(bytes, 4 * treated.read, have);
     let table = treated.table;
     let totals = treated.totals;
     State {

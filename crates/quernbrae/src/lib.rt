@@ -7,7 +7,7 @@
 use channel::Record;
 use voice::Done;
 ghost use mathlib.Core.Path.{_≡_};
-ghost use lib.ListN.{getD, length};
+ghost use lib.ListN.{length};
 ghost use Rattle.channel.specs.Record.{empty, fresh};
 ghost use Rattle.ump.specs.Packet.{packet};
 ghost use Rattle.voice.specs.Call.{leftOf, sentOf, within};
@@ -50,18 +50,12 @@ fn start(n: usize, end: usize) -> Progress
     }
 }
 
-fn word_at(words: &[u32], at: usize) -> u32
-    ensures { λ r. ⌜ r ≡ getD (now (words .entry)) at 0 ⌝ }
-{
-    if at < words.len() { words[at] } else { 0 }
-}
-
 // Where the next packet's record stands in a table of n, and n where it is refused.
 fn place_of(n: usize, words: &[u32], p: Progress) -> usize
     ensures { λ r. ⌜ r ≡ placeAt n (now (words .entry)) p ⌝ }
 {
     if n == 256 {
-        let w = word_at(words, p.read);
+        let w = ump::word_at(words, p.read);
         return ump::record_number(ump::group_of(w), ump::channel_of(w));
     }
     n

@@ -1,11 +1,119 @@
-// Words as bytes and as text: big-endian words in a buffer of bytes, and a line of the listing.
+// A line of the listing: the answer, the words read, and each word sent in upper-case hex.
 //
-// No function has a `requires`. Each says what it answers and what a lent buffer holds after it, on
-// every input. What does not fit is not written.
-mod lines;
-mod words;
+// `line` has no `requires`. It says what it answers and what the lent buffer holds after it, on every
+// input: a line that does not fit is not begun.
+ghost use mathlib.Core.Path.{_≡_};
+ghost use mathlib.Core.Bool.{cond};
+ghost use Prim.Native.Nat.{_+_, _*_, _-_, _<_, _≤_};
+ghost use lib.Dec.{leb};
+ghost use lib.ListN.{length};
+ghost use lib.Seq.{sets};
+ghost use Rattle.text.specs.Lines.{digits, fields, lineOf};
+ghost use Rattle.text.specs.Lines;
 
-pub use lines::line;
-pub use words::bytes_of;
-pub use words::carry;
-pub use words::words_of;
+const SPACE: u8 = 32;
+
+const NEWLINE: u8 = 10;
+
+fn glyph(d: u64) -> u8
+    requires { ⌜ d < 16 ⌝ }
+    ensures { λ r. ⌜ r ≡ Lines.glyph d ⌝ }
+{
+    if d < 10 { 48 + d as u8 } else { 55 + d as u8 }
+}
+
+// How many decimal digits a number has.
+fn places(n: u64) -> usize
+    ensures { λ r. ⌜ (r ≡ Lines.places n) × (r ≤ 20) ⌝ }
+{
+    let mut k: usize = 1;
+    let mut rest = n;
+    while 10 <= rest {
+        rest = rest / 10;
+        k += 1;
+    }
+    k
+}
+
+// Stores so many digits of a number, the last of them in its last place.
+fn spell(n: u64, base: u64, count: usize, out: &mut [u8], to: usize)
+    requires { ⌜ (2 ≤ base) × (base ≤ 16) × (to + count ≤ length (now out)) ⌝ }
+    ensures { λ _. ⌜ now (out .exit) ≡ sets (now (out .entry)) to (digits base count n) ⌝ }
+{
+    let mut rest = n;
+    let mut i = count;
+    while 0 < i {
+        i -= 1;
+        out[to + i] = glyph(rest % base);
+        rest = rest / base;
+    }
+}
+
+// Stores each word after a space, and answers the place after the last.
+fn put_fields(words: &[u32], out: &mut [u8], to: usize) -> usize
+    requires { ⌜ to + 9 * length (now words) ≤ length (now out) ⌝ }
+    ensures { λ r. ⌜ (r ≡ to + 9 * length (now (words .entry)))
+        × (now (out .exit) ≡ sets (now (out .entry)) to (fields (now (words .entry)))) ⌝ }
+{
+    let mut at = to;
+    let mut i = 0;
+    while i < words.len() {
+        out[at] = SPACE;
+        spell(words[i] as u64, 16, 8, out, at + 1);
+        at += 9;
+        i += 1;
+    }
+    at
+}
+
+// Whether so many bytes and so many words with a space before each fit from a place on.
+fn is_room(len: usize, to: usize, head: usize, words: usize) -> bool
+    requires { ⌜ 0 < head ⌝ }
+    ensures { λ r. ⌜ r ≡ leb (head + 9 * words) (len - to) ⌝ }
+{
+    if len <= to {
+        return false;
+    }
+    let room = len - to;
+    if room < head {
+        return false;
+    }
+    words <= (room - head) / 9
+}
+
+// Stores the line of a call whose two numbers have a and b digits, and answers the place after it.
+fn put_line(
+    answer: u32,
+    a: usize,
+    read: usize,
+    b: usize,
+    words: &[u32],
+    out: &mut [u8],
+    to: usize,
+) -> usize
+    requires { ⌜ (a ≡ Lines.places answer) × (b ≡ Lines.places read) × (to + (a + b + 2 + 9 * length (now words)) ≤ length (now out)) ⌝ }
+    ensures { λ r. ⌜ (r ≡ to + length (lineOf answer read (now (words .entry))))
+        × (now (out .exit) ≡ sets (now (out .entry)) to (lineOf answer read (now (words .entry)))) ⌝ }
+{
+    spell(answer as u64, 10, a, out, to);
+    out[to + a] = SPACE;
+    spell(read as u64, 10, b, out, to + a + 1);
+    let end = put_fields(words, out, to + a + 1 + b);
+    out[end] = NEWLINE;
+    end + 1
+}
+
+// Writes the line of a call from a place on and answers the place after it, or, where it does not
+// fit, writes nothing and answers the place.
+pub fn line(answer: u32, read: usize, words: &[u32], out: &mut [u8], to: usize) -> usize
+    ensures { λ r. ⌜ (r ≡ cond (leb (length (lineOf answer read (now (words .entry)))) (length (now (out .entry)) - to)) (to + length (lineOf answer read (now (words .entry)))) to)
+        × (now (out .exit) ≡ cond (leb (length (lineOf answer read (now (words .entry)))) (length (now (out .entry)) - to)) (sets (now (out .entry)) to (lineOf answer read (now (words .entry)))) (now (out .entry))) ⌝ }
+{
+    let a = places(answer as u64);
+    let b = places(read as u64);
+    if is_room(out.len(), to, a + b + 2, words.len()) {
+        put_line(answer, a, read, b, words, out, to)
+    } else {
+        to
+    }
+}

@@ -1,7 +1,7 @@
 // Packets in a stream of words.
 ghost use mathlib.Core.Path.{_≡_};
 ghost use Prim.Native.Nat.{_+_};
-ghost use lib.ListN.{drop, length};
+ghost use lib.ListN.{drop, getD, length};
 ghost use Rattle.ump.specs.Packet.{packet};
 ghost use Rattle.ump.specs.Packet;
 
@@ -14,6 +14,13 @@ pub fn size(w: u32) -> usize
 {
     let t = w / 268435456 % 16;
     ((SIZES >> (t * 2)) % 4 + 1) as usize
+}
+
+// The word at a place, 0 past the end.
+pub fn word_at(words: &[u32], at: usize) -> u32
+    ensures { λ r. ⌜ r ≡ getD (now (words .entry)) at 0 ⌝ }
+{
+    if at < words.len() { words[at] } else { 0 }
 }
 
 // The packet at a place: its own words, a part of the caller's. An empty part where no whole packet

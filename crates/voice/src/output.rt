@@ -4,16 +4,9 @@ ghost use mathlib.Core.Path.{_≡_};
 ghost use mathlib.Core.Bool.{cond};
 ghost use Prim.Native.Nat.{_-_, _≤_};
 ghost use lib.Dec.{leb};
-ghost use lib.ListN.{getD, length};
+ghost use lib.ListN.{length};
 ghost use Rattle.lower.specs.Values.{packed};
 ghost use Rattle.voice.specs.Output.{wordsOf, written};
-
-// The word at i, 0 past the end.
-pub(crate) fn word_at(p: &[u32], i: usize) -> u32
-    ensures { λ r. ⌜ r ≡ getD (now (p .entry)) i 0 ⌝ }
-{
-    if i < p.len() { p[i] } else { 0 }
-}
 
 // No word, or two.
 pub(crate) fn up_to_two(count: usize, a: u32, b: u32) -> Sent
@@ -34,10 +27,10 @@ pub(crate) fn same_words(p: &[u32]) -> Sent
 {
     Sent {
         count: p.len(),
-        a: word_at(p, 0),
-        b: word_at(p, 1),
-        c: word_at(p, 2),
-        d: word_at(p, 3),
+        a: ump::word_at(p, 0),
+        b: ump::word_at(p, 1),
+        c: ump::word_at(p, 2),
+        d: ump::word_at(p, 3),
     }
 }
 
@@ -59,28 +52,18 @@ pub(crate) fn put(out: &mut [u32], to: usize, sent: Sent) -> bool
     if room < count {
         return false;
     }
-    match count {
-        1 => {
-            out[to] = sent.a;
-            true
-        }
-        2 => {
-            out[to] = sent.a;
-            out[to + 1] = sent.b;
-            true
-        }
-        3 => {
-            out[to] = sent.a;
-            out[to + 1] = sent.b;
-            out[to + 2] = sent.c;
-            true
-        }
-        _ => {
-            out[to] = sent.a;
-            out[to + 1] = sent.b;
-            out[to + 2] = sent.c;
-            out[to + 3] = sent.d;
-            true
-        }
+    out[to] = sent.a;
+    if count == 1 {
+        return true;
     }
+    out[to + 1] = sent.b;
+    if count == 2 {
+        return true;
+    }
+    out[to + 2] = sent.c;
+    if count == 3 {
+        return true;
+    }
+    out[to + 3] = sent.d;
+    true
 }
