@@ -194,7 +194,8 @@ fn run(kind: Kind) -> State {
     let mut words = [0u32; 8192];
     let mut sent = [0u32; 16384];
     let mut text = [0u8; 65536];
-    let table = flow::fresh_table();
+    let records = channel::fresh_table();
+    let table = Table { records };
     let totals = Totals::none();
     let mut s = State {
         table,

@@ -12,7 +12,6 @@ ghost use mathlib.Core.Path.{_≡_};
 ghost use Prim.Native.Nat.{_+_, _-_, _^_, _<_};
 ghost use lib.ListN.{drop, getD, length, set};
 ghost use Rattle.ump.specs.Packet.{cut, packet};
-ghost use Rattle.channel.specs.Record.{fresh};
 ghost use Rattle.voice.specs.Call.{fit, sentOf, within};
 ghost use Rattle.voice.specs.Output.{upped, written};
 ghost use Rattle.voice.specs.Packet.{callDown, packetUp};
@@ -44,14 +43,6 @@ pub struct Downward {
 pub struct Listing {
     pub table: Table,
     pub done: Done,
-}
-
-// The table at the start of a stream.
-pub fn fresh_table() -> Table
-    ensures { λ r. ⌜ r .records ≡ fresh ⌝ }
-{
-    let records = channel::fresh_table();
-    Table { records }
 }
 
 // Where a packet's record stands, by its first word.

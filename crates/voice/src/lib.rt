@@ -9,7 +9,6 @@ pub use act::down;
 pub use act::up;
 use channel::Record;
 use lower::Sent;
-ghost use Rattle.voice.specs.Examples.{Examples};
 
 // The answers, by the specification's numbers.
 pub const SENT: u32 = 0;
@@ -59,8 +58,3 @@ pub struct ActedUp {
     pub after: Record,
     pub acted: Acted,
 }
-
-// The examples that the specification marks P.
-pub fn examples()
-    ensures { λ _. ⌜ Examples ⌝ }
-{}

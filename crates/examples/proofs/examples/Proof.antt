@@ -1,4 +1,4 @@
--- `voice::examples` meets its contract: both sides of each example compute to the same words. Assumes nothing.
+-- `examples::examples` meets its contract: both sides of each example compute to the same words. Assumes nothing.
 use mathlib.Core.Path.{refl}
 use Rattle.scale.specs.Scale.{fill, up}
 use Rattle.ump.specs.Packet.{packet, size}
@@ -8,10 +8,10 @@ use Rattle.channel.specs.Record.{kept, sound, withDataHigh}
 use Rattle.message.specs.Message.{bankOf, first2, read1, read2, second2, write1}
 use Rattle.lift.specs.Lift.{addressed2, banked2, controlOf, controlled, dataLow, lift}
 use Rattle.lower.specs.Lower.{lower, sounding}
 use Rattle.voice.specs.Packet.{callDown, callUp, packetDown, packetUp, speakDown, speakUp}
-use Rattle.voice.specs.Examples.{Examples, examples, goingDown, goingUp}
-use Rattle.voice.proofs.examples.Statement.{statement}
-use Rattle.voice.proofs.examples.Tie as tie
+use Rattle.examples.specs.Examples.{Examples, examples, goingDown, goingUp}
+use Rattle.examples.proofs.examples.Statement.{statement}
+use Rattle.examples.proofs.examples.Tie as tie
 
 returns : tie.Need-returns
 unfolding fill up packet size typed check fields goodStatus voice1Fields voice2Fields within kept sound withDataHigh bankOf first2 read1 read2 second2 write1 addressed2 banked2 controlOf controlled dataLow lift lower sounding callDown callUp packetDown packetUp speakDown speakUp Examples examples goingDown goingUp
