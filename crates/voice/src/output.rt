@@ -52,18 +52,28 @@ pub(crate) fn put(out: &mut [u32], to: usize, sent: Sent) -> bool
     if room < count {
         return false;
     }
-    out[to] = sent.a;
-    if count == 1 {
-        return true;
+    match count {
+        1 => {
+            out[to] = sent.a;
+            true
+        }
+        2 => {
+            out[to] = sent.a;
+            out[to + 1] = sent.b;
+            true
+        }
+        3 => {
+            out[to] = sent.a;
+            out[to + 1] = sent.b;
+            out[to + 2] = sent.c;
+            true
+        }
+        _ => {
+            out[to] = sent.a;
+            out[to + 1] = sent.b;
+            out[to + 2] = sent.c;
+            out[to + 3] = sent.d;
+            true
+        }
     }
-    out[to + 1] = sent.b;
-    if count == 2 {
-        return true;
-    }
-    out[to + 2] = sent.c;
-    if count == 3 {
-        return true;
-    }
-    out[to + 3] = sent.d;
-    true
 }
