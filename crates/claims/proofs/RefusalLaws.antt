@@ -18,7 +18,8 @@ use Rattle.lower.specs.Lower.{lower}
 use Rattle.voice.specs.Call.{Call, answerOf, fit, leftOf, sentOf, stopped, went, within}
 use Rattle.voice.specs.Packet.{callDown, first, second}
 use Rattle.voice.proofs.ActLaws.{few-down}
-use Rattle.quernbrae.specs.Table.{placeOf, tableUp}
+use Rattle.ump.specs.Word.{placeOf}
+use Rattle.quernbrae.specs.Table.{tableUp}
 use Rattle.claims.specs.Refusals.{ByAnswer, Refusals, casesDown, casesUp, numbered, readsNothing}
 use Rattle.claims.proofs.RunLaws.{Left, choose, within-left}
 use Rattle.claims.proofs.StepLaws.{Fine, Refused, down-cases, early, standing, up-cases, up-left, up-length}

@@ -25,7 +25,8 @@ use Rattle.voice.specs.Call.{Call, leftOf, sentOf, stopped, went, within}
 use Rattle.voice.specs.Packet.{callDown, callUp, first, packetDown, packetUp, sending, sendingDown, speakDown, speakUp}
 use Rattle.message.proofs.MessageLaws.{place1, place2, read1-write1, read2-write2}
 use Rattle.quernbrae.specs.Run.{run}
-use Rattle.quernbrae.specs.Table.{placeOf, runDown, runUp, stored, tableUp}
+use Rattle.ump.specs.Word.{placeOf}
+use Rattle.quernbrae.specs.Table.{runDown, runUp, stored, tableUp}
 use Rattle.claims.specs.RoundTrip.{Gated, RoundTrip, RoundTripGated, StillPasses}
 use Rattle.claims.specs.Runs.{All, joined}
 use Rattle.claims.proofs.LiftLaws.{Upward, lift-sound, lift-upward, liftAll, liftAll-sound, listed, lower-fits, taken-back}

@@ -26,7 +26,8 @@ use Rattle.lower.specs.Lower.{lower}
 use Rattle.voice.specs.Call.{Call, sentOf, stopped, went}
 use Rattle.voice.specs.Packet.{callDown, callUp, checked, first, found, packetDown, packetUp, second, sending, sendingDown, speakDown, speakUp, staged}
 use Rattle.voice.proofs.ActLaws.{few-down}
-use Rattle.quernbrae.specs.Table.{placeOf, stored, tableUp}
+use Rattle.ump.specs.Word.{placeOf}
+use Rattle.quernbrae.specs.Table.{stored, tableUp}
 use Rattle.claims.proofs.RunLaws.{Left, Stops, choose}
 
 -- the answer of the type and the check, in their order; and else what follows

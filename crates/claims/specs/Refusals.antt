@@ -16,7 +16,8 @@ use Rattle.message.specs.Message.{read2}
 use Rattle.lower.specs.Lower.{lower}
 use Rattle.voice.specs.Call.{Call, answerOf, leftOf, readOf, sentOf, within}
 use Rattle.voice.specs.Packet.{callDown, first, second}
-use Rattle.quernbrae.specs.Table.{placeOf, tableUp}
+use Rattle.ump.specs.Word.{placeOf}
+use Rattle.quernbrae.specs.Table.{tableUp}
 
 -- The cases of 01 "What each call answers", each true or false of a call.
 pub record Cases : Type 0 where

@@ -16,7 +16,8 @@ use Rattle.voice.specs.Call.{Call, fit, sentOf, within}
 use Rattle.voice.specs.Packet.{callUp, first, packetUp}
 use Rattle.voice.specs.Output.{upped, written}
 use Rattle.quernbrae.specs.Run.{Ran, reported}
-use Rattle.quernbrae.specs.Table.{placeOf, stored, tableUp}
+use Rattle.ump.specs.Word.{placeOf}
+use Rattle.quernbrae.specs.Table.{stored, tableUp}
 use Rattle.quernbrae.proofs.RunLoop.{Did, DidRun}
 use Rattle.quernbrae.proofs.TableLaws.{with-table}
 

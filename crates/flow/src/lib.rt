@@ -16,7 +16,8 @@ ghost use Rattle.voice.specs.Call.{fit, sentOf, within};
 ghost use Rattle.voice.specs.Output.{upped, written};
 ghost use Rattle.voice.specs.Packet.{callDown, packetUp};
 ghost use Rattle.quernbrae.specs.Run.{atStart, reported, run};
-ghost use Rattle.quernbrae.specs.Table.{placeOf, tableUp};
+ghost use Rattle.ump.specs.Word.{placeOf};
+ghost use Rattle.quernbrae.specs.Table.{tableUp};
 ghost use Rattle.flow.specs.Tally.{answers, tally};
 ghost use Rattle.flow.specs.Listing.{listUp, listed};
 

@@ -25,7 +25,7 @@ use denote.Index.{row, whole-in, whole-out}
 use denote.Struct.Steps.{spelt}
 use Rattle.channel.specs.declared.Record.{Record}
 use Rattle.channel.proofs.Record.Laws as TR′
-use Rattle.quernbrae.proofs.Values.{R, valsR, tellsR}
+use Rattle.table.proofs.Values.{R, valsR, tellsR}
 
 module _ {M : Type 1} (𝓤 : URA M) (H : Heap 𝓤) (A : Atoms 𝓤) (W : Given 𝓤 H A) (n : ℕ) (l : ℕ) where
   abbrev τ : Ty

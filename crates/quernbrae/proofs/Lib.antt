@@ -1,9 +1,4 @@
-pub mod StepLaws
-pub mod Values
-pub mod More
-pub mod Again
 pub mod Calls
-pub mod Turns
 pub mod Said
 pub mod ArrayLent
 pub mod RunLoop

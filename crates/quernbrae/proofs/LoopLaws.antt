@@ -19,13 +19,15 @@ use Rattle.voice.specs.declared.Done.{Done}
 use Rattle.voice.specs.Call.{Call, answerOf, fit, leftOf, readOf, sentOf, stopped, went, within}
 use Rattle.voice.specs.Packet.{callDown, callUp, first, packetDown, packetUp}
 use Rattle.voice.specs.Output.{done, upped, written}
-use Rattle.quernbrae.specs.declared.Progress.{Progress}
+use Rattle.table.specs.declared.Progress.{Progress}
 use Rattle.quernbrae.specs.Run.{Ran, atStart, reported, run}
-use Rattle.quernbrae.specs.Table.{placeOf, runUp, stored, tableUp}
-use Rattle.quernbrae.specs.Loop.{State, callAt, callOf, finishedOf, oneOf, outOf, placeAt, runOf, startOf, steppedOf, treated, turns, uppedAt}
+use Rattle.ump.specs.Word.{placeOf}
+use Rattle.quernbrae.specs.Table.{runUp, stored, tableUp}
+use Rattle.table.specs.Loop.{State, callAt, oneOf, outOf, placeAt, startOf, steppedOf, treated, turns, uppedAt}
+use Rattle.quernbrae.specs.Report.{callOf, finishedOf, runOf}
 use Rattle.quernbrae.proofs.RunLoop.{Did, DidRun, Inside, Runs, Then, finish, start, turn}
 use Rattle.quernbrae.proofs.TableLaws.{numbers, table-inside, table-near, up-inside, up-numbered, with-table}
-use Rattle.quernbrae.proofs.Turns.{turns-stop}
+use Rattle.table.proofs.Turns.{turns-stop}
 
 place-lt : (w : ℕ) → placeOf w < 256
 place-lt w = omega arith

@@ -12,7 +12,8 @@ use Rattle.voice.specs.Call.{leftOf, sentOf, within}
 use Rattle.voice.specs.Output.{done}
 use Rattle.quernbrae.specs.Run.{atStart, reported}
 use Rattle.quernbrae.specs.Table.{runUp, tableUp}
-use Rattle.quernbrae.specs.Loop.{callOf, runOf, treated}
+use Rattle.table.specs.Loop.{treated}
+use Rattle.quernbrae.specs.Report.{callOf, runOf}
 use Rattle.quernbrae.proofs.LoopLaws.{called, ran-up}
 
 module _ (ws : List ℕ) (tb : List Record) (out : List ℕ) (r : Done) (zs : List Record) (os : List ℕ) where

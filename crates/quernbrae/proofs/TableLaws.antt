@@ -24,8 +24,9 @@ use Rattle.lift.specs.Lift.{lift}
 use Rattle.lower.specs.Lower.{lower}
 use Rattle.voice.specs.Call.{Call, answerOf, fit, leftOf, readOf, sentOf, stopped, went}
 use Rattle.voice.specs.Packet.{callDown, callUp, checked, first, found, packetDown, packetUp, second, sending, sendingDown, speakDown, speakUp, staged}
-use Rattle.quernbrae.specs.Table.{placeOf, stored, tableUp}
-use Rattle.quernbrae.specs.Loop.{finishedOf}
+use Rattle.ump.specs.Word.{placeOf}
+use Rattle.quernbrae.specs.Table.{stored, tableUp}
+use Rattle.quernbrae.specs.Report.{finishedOf}
 use Rattle.quernbrae.proofs.RunLoop.{Inside}
 
 first-near : (w : ℕ) (s : List ℕ) → first (take (size w) (w ∷ s)) ≡ w

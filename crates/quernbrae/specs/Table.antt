@@ -4,17 +4,13 @@ use mathlib.Core.Bool.{cond}
 use mathlib.Core.List.{List, []}
 use lib.ListN.{getD, length, set}
 use lib.Dec.{eqb}
-use Rattle.ump.specs.Word.{channelOf, groupOf, recordNumber}
+use Rattle.ump.specs.Word.{placeOf}
 use Rattle.ump.specs.Packet.{cut}
 use Rattle.channel.specs.declared.Record.{Record}
 use Rattle.channel.specs.Record.{empty}
 use Rattle.voice.specs.Call.{Call, stopped, went, within}
 use Rattle.voice.specs.Packet.{callDown, callUp, first}
 use Rattle.quernbrae.specs.Run.{Ran, run}
-
--- "the record of a packet is number 16 times group plus channel", by the packet's first word
-abbrev pub placeOf : ℕ → ℕ
-placeOf w = recordNumber (groupOf w) (channelOf w)
 
 -- one place of the table is replaced
 abbrev pub stored : List Record → ℕ → Call Record → Call (List Record)

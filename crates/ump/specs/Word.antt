@@ -57,3 +57,7 @@ bankFlag w = w % 2
 -- "the record of a packet is number 16 times group plus channel"
 abbrev pub recordNumber : Group → Channel → ℕ
 recordNumber g c = 16 * g .0 + c .0
+
+-- the same, by the packet's first word
+abbrev pub placeOf : ℕ → ℕ
+placeOf w = recordNumber (groupOf w) (channelOf w)

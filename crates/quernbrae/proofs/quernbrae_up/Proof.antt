@@ -38,15 +38,17 @@ use denote.Signature.{plain}
 use Rattle.channel.specs.declared.Record.{Record}
 use Rattle.voice.specs.declared.Done.{Done}
 use Rattle.voice.proofs.Done.Laws as TD′
-use Rattle.quernbrae.specs.Loop.{State, callOf, treated}
-use Rattle.quernbrae.proofs.Progress.Laws as TP′
-use Rattle.quernbrae.proofs.Values.{R, P, valP, valsP, typedP, D, valD, valsD, typedD, madeD}
-use Rattle.quernbrae.proofs.More.{use6}
-use Rattle.quernbrae.proofs.Calls.{Treat, to-treat, treat-pre, treat-post, CallOf, to-call-of, progress-pre, call-of-post}
+use Rattle.table.specs.Loop.{State, treated}
+use Rattle.quernbrae.specs.Report.{callOf}
+use Rattle.table.proofs.Progress.Laws as TP′
+use Rattle.table.proofs.Values.{R, P, valP, valsP, typedP, D, valD, valsD, typedD, madeD}
+use Rattle.table.proofs.More.{use6}
+use Rattle.table.proofs.Calls.{Treat, to-treat, treat-pre, treat-post, progress-pre}
+use Rattle.quernbrae.proofs.Calls.{CallOf, to-call-of, call-of-post}
 use Rattle.quernbrae.proofs.Said.{up-said}
-use Rattle.quernbrae.proofs.treat.Symbol as treat-def
-use Rattle.quernbrae.proofs.treat.Symbol.{name as #quernbrae·treat}
-use Rattle.quernbrae.proofs.treat.Met as treat-thm
+use Rattle.table.proofs.treat.Symbol as treat-def
+use Rattle.table.proofs.treat.Symbol.{name as #table·treat}
+use Rattle.table.proofs.treat.Met as treat-thm
 use Rattle.quernbrae.proofs.call_of.Symbol as report-def
 use Rattle.quernbrae.proofs.call_of.Symbol.{name as #quernbrae·call-of}
 use Rattle.quernbrae.proofs.call_of.Met as report-thm
@@ -97,7 +99,7 @@ module _ {M : Type 1} (𝓤 : URA M) (H : Heap 𝓤) (A : Atoms 𝓤) (W : Given
       nothing ! $ move ! (3 ∷ 0 ∷ []) $ join ! $ move ! (2 ∷ 0 ∷ []) $ join ! $ move ! (1 ∷ 0 ∷ []) $ join ! $ frame ! $
       nothing ! $ move ! (3 ∷ 0 ∷ []) $ fjoin ! $ move ! (2 ∷ 0 ∷ []) $ fjoin ! $ move ! (1 ∷ 0 ∷ []) $ fjoin ! $ frame ! $ owned ! D (Is D) (madeD 𝓤 H A W) r′ _ is-r $ done !
 
-  module _ (C : Calls 𝓤 H) (Λ : Loops 𝓤 H) (fm : FmC 𝓤 H (W .laws) C) (known-treat : Triple 𝓤 (C #quernbrae·treat) (Treat 𝓤 H A W at-mem run)) (known-report : Triple 𝓤 (C #quernbrae·call-of) (CallOf 𝓤 H A W at-mem run)) where
+  module _ (C : Calls 𝓤 H) (Λ : Loops 𝓤 H) (fm : FmC 𝓤 H (W .laws) C) (known-treat : Triple 𝓤 (C #table·treat) (Treat 𝓤 H A W at-mem run)) (known-report : Triple 𝓤 (C #quernbrae·call-of) (CallOf 𝓤 H A W at-mem run)) where
     walk : ent 𝓤 (onEntry 𝓤 H A go.signature (κ₀, (κ₁, (κ₂, tt))) (q₀, (q₁, (q₂, tt))) a at) (WpFn 𝓤 H C Λ code.function (sliceVal (w .ptr) (length (w .now)) ∷ sliceVal (x .ptr) (length (x .now)) ∷ sliceVal (y .ptr) (length (y .now)) ∷ []) Post)
     walk =
         qed W ((‵ (flft κ₀ q₀) ⊛ ‵ (flft κ₁ q₁) ⊛ ‵ (flft κ₂ q₂) ⊛ ‵ ftrue) ∷ ‵ (owns (ShrSlice (named 0) κ₀ u32 ∷ MutSlice (named 1) κ₁ R ∷ MutSlice (named 2) κ₂ u32 ∷ []) a at) ∷ []) ∵
@@ -127,13 +129,13 @@ module _ {M : Type 1} (𝓤 : URA M) (H : Heap 𝓤) (A : Atoms 𝓤) (W : Given
         by ! (exits (d .1) (f .1 .0) (f .1 .1)))))))))))))))
 
 module _ {M : Type 1} (𝓤 : URA M) (H : Heap 𝓤) (A : Atoms 𝓤) (W : Given 𝓤 H A) (at-mem : Memory → SProp 𝓤) (run : Routine → Fun 𝓤) where
-  go-walks : (C : Calls 𝓤 H) (Λ : Loops 𝓤 H) → FmC 𝓤 H (W .laws) C → Triple 𝓤 (C #quernbrae·treat) (Treat 𝓤 H A W at-mem run) → Triple 𝓤 (C #quernbrae·call-of) (CallOf 𝓤 H A W at-mem run)
+  go-walks : (C : Calls 𝓤 H) (Λ : Loops 𝓤 H) → FmC 𝓤 H (W .laws) C → Triple 𝓤 (C #table·treat) (Treat 𝓤 H A W at-mem run) → Triple 𝓤 (C #quernbrae·call-of) (CallOf 𝓤 H A W at-mem run)
       → Walks 𝓤 H A go.ended stayed (WpFn 𝓤 H C Λ code.function) (go.clauses 𝓤 H A at-mem run)
   go-walks C Λ fm k₁ k₂ = walked 𝓤 H A go.ended stayed (go.clauses 𝓤 H A at-mem run) (WpFn 𝓤 H C Λ code.function)
       (λ κs. (slice-vals, (slice-vals, (slice-vals, tt)))) (λ κs. (shr-slice-tells (named 0) (κs .0) u32, (mut-slice-tells (named 1) (κs .1 .0) R, (mut-slice-tells (named 2) (κs .1 .1 .0) u32, tt))))
       (λ κs qs bounds a g are. via 𝓤 _ (fst∗ 𝓤 _ (emp 𝓤)) (walk 𝓤 H A W at-mem run (κs .0) (κs .1 .0) (κs .1 .1 .0) (qs .0) (qs .1 .0) (qs .1 .1 .0) (a .0) (a .1 .0) (a .1 .1 .0) (are .0 .0 .1) (are .1 .0 .0 .1) (are .1 .1 .0 .0 .1) C Λ fm k₁ k₂))
 
-go-meets : {M : Type 1} (𝓤 : URA M) (H : Heap 𝓤) (A : Atoms 𝓤) (W : Given 𝓤 H A) (mem : Memory → SProp 𝓤) (run : Routine → Fun 𝓤) (𝓣 : Tables 𝓤 H) → Triple 𝓤 (𝓣 .C #quernbrae·treat) (Treat 𝓤 H A W mem run) → Triple 𝓤 (𝓣 .C #quernbrae·call-of) (CallOf 𝓤 H A W mem run)
+go-meets : {M : Type 1} (𝓤 : URA M) (H : Heap 𝓤) (A : Atoms 𝓤) (W : Given 𝓤 H A) (mem : Memory → SProp 𝓤) (run : Routine → Fun 𝓤) (𝓣 : Tables 𝓤 H) → Triple 𝓤 (𝓣 .C #table·treat) (Treat 𝓤 H A W mem run) → Triple 𝓤 (𝓣 .C #quernbrae·call-of) (CallOf 𝓤 H A W mem run)
     → Meets 𝓤 H A go.signature (WpFn 𝓤 H (𝓣 .C) (𝓣 .Λ) code.function) (go.spec 𝓤 H A mem run)
 go-meets 𝓤 H A W mem run 𝓣 k₁ k₂ =
     walk-meets 𝓤 H A go.ended stayed W (goes-none-slice 𝓤 H A W 3 (0 ∷ []) tt (plain (λ _. u32)) yes, (goes-gave-slice 𝓤 H A W 3 1 tt (plain (λ _. R)), (goes-gave-slice 𝓤 H A W 3 2 tt (plain (λ _. u32)), tt))) (go.clauses 𝓤 H A mem run)
@@ -145,5 +147,5 @@ quernbrae-up-spec 𝓤 H 𝓜 𝓖 𝓡 =
     entered 𝓤 H (tripleOf 𝓤 H (𝓖 .A) go.signature (go.spec 𝓤 H (𝓖 .A) (𝓜 .mem) (𝓡 .run)))
     (tables 𝓤 H 𝓜 𝓡 code.env .C) (tables 𝓤 H 𝓜 𝓡 code.env .Λ) #quernbrae·quernbrae-up code.function (code.unfolded 𝓤 H 𝓜 𝓡)
     (go-meets 𝓤 H (𝓖 .A) (givenOf 𝓤 H 𝓜 𝓖) (𝓜 .mem) (𝓡 .run) (tablesOf 𝓤 H 𝓜 (tables 𝓤 H 𝓜 𝓡 code.env))
-    (cited 𝓤 H (Treat 𝓤 H (𝓖 .A) (givenOf 𝓤 H 𝓜 𝓖) (𝓜 .mem) (𝓡 .run)) 𝓜 𝓡 code.env #quernbrae·treat treat-def.routine code.calls-quernbrae·treat (treat-thm.met 𝓤 H 𝓜 𝓖 𝓡))
+    (cited 𝓤 H (Treat 𝓤 H (𝓖 .A) (givenOf 𝓤 H 𝓜 𝓖) (𝓜 .mem) (𝓡 .run)) 𝓜 𝓡 code.env #table·treat treat-def.routine code.calls-table·treat (treat-thm.met 𝓤 H 𝓜 𝓖 𝓡))
     (cited 𝓤 H (CallOf 𝓤 H (𝓖 .A) (givenOf 𝓤 H 𝓜 𝓖) (𝓜 .mem) (𝓡 .run)) 𝓜 𝓡 code.env #quernbrae·call-of report-def.routine code.calls-quernbrae·call-of (report-thm.met 𝓤 H 𝓜 𝓖 𝓡)))

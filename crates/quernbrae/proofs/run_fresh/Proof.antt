@@ -52,8 +52,8 @@ use Rattle.channel.proofs.fresh_table.Met as fresh-thm
 use Rattle.voice.specs.declared.Done.{Done}
 use Rattle.voice.proofs.Done as TD
 use Rattle.voice.proofs.Done.Laws as TD′
-use Rattle.quernbrae.proofs.Values.{R, D, tyTable}
-use Rattle.quernbrae.proofs.More.{use6}
+use Rattle.table.proofs.Values.{R, D, tyTable}
+use Rattle.table.proofs.More.{use6}
 use Rattle.reader.proofs.Post.{left-two}
 use Rattle.quernbrae.proofs.ArrayLent.{lends-array, array-back}
 use Rattle.quernbrae.proofs.Said.{RunSaid, fresh-said}

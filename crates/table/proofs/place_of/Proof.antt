@@ -1,8 +1,8 @@
--- `quernbrae::place_of` meets its contract: each call says its part of the record's number. Assumes nothing.
+-- `table::place_of` meets its contract: each call says its part of the record's number. Assumes nothing.
 use borrow.Author.Needs.{needs}
 use borrow.Author.Tests.{eq-eqb, ne-eqb}
-use Rattle.quernbrae.proofs.place_of.Statement.{statement}
-use Rattle.quernbrae.proofs.place_of.Tie as tie
+use Rattle.table.proofs.place_of.Statement.{statement}
+use Rattle.table.proofs.place_of.Tie as tie
 
 returns : tie.Need-returns
 returns c =

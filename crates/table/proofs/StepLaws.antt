@@ -13,8 +13,8 @@ use Rattle.channel.specs.declared.Record.{Record}
 use Rattle.channel.specs.Record.{empty}
 use Rattle.voice.specs.Call.{Call, fit, readOf, sentOf, stopped, went}
 use Rattle.voice.specs.Packet.{packetUp}
-use Rattle.quernbrae.specs.declared.Progress.{Progress}
-use Rattle.quernbrae.specs.Loop.{State, callAt, oneOf, placeAt, refusedOf, steppedOf, uppedAt}
+use Rattle.table.specs.declared.Progress.{Progress}
+use Rattle.table.specs.Loop.{State, callAt, oneOf, placeAt, refusedOf, steppedOf, uppedAt}
 
 read-most : {T : Type 0} (n : ℕ) (c : Call T) → readOf n c ≤ n
 read-most n (went a ws u) = omega arith

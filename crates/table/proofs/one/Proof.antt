@@ -1,4 +1,4 @@
--- `quernbrae::one` meets its contract: a walk of its MIR. `place_of` says where the record stands; where that is in the table the borrow is opened, the element is read, `step` is called with it and with the output, which is given up for good, and the new record is stored over the element.
+-- `table::one` meets its contract: a walk of its MIR. `place_of` says where the record stands; where that is in the table the borrow is opened, the element is read, `step` is called with it and with the output, which is given up for good, and the new record is stored over the element.
 -- Assumes nothing.
 use mathlib.Core.Path.{_≡_, refl, sym, ap, subst}
 use Prim.Native.Nat.{ℕ, _<_, _^_}
@@ -43,28 +43,28 @@ use denote.Signature.{plain}
 use Rattle.channel.specs.declared.Record.{Record}
 use Rattle.channel.specs.Record.{empty}
 use Rattle.channel.proofs.Record.Laws as TR′
-use Rattle.quernbrae.specs.declared.Progress.{Progress}
-use Rattle.quernbrae.specs.declared.Stepped.{Stepped}
-use Rattle.quernbrae.specs.Loop.{oneO, oneP, oneT, outOf, placeAt, refusedOf, steppedOf}
-use Rattle.quernbrae.proofs.Progress.Laws as TP′
-use Rattle.quernbrae.proofs.Stepped.Laws as TS′
-use Rattle.quernbrae.proofs.Values.{R, valsR, tellsR, typedR, madeR, P, valP, valsP, tellsP, typedP, madeP, S, valS, valsS, typedS, after-is, progress-is, tyWords, tyOut, tyOutRef, tyTable, bytes-fit}
-use Rattle.quernbrae.proofs.More.{use4, slice-given, cond-yes, cond-no}
-use Rattle.quernbrae.proofs.Calls.{PlaceOf, to-place, place-pre, place-post, Step, to-step, step-pre, step-post, Refused, to-refused, progress-pre, refused-post}
-use Rattle.quernbrae.proofs.place_of.Symbol as place-def
-use Rattle.quernbrae.proofs.place_of.Symbol.{name as #quernbrae·place-of}
-use Rattle.quernbrae.proofs.place_of.Met as place-thm
-use Rattle.quernbrae.proofs.step.Symbol as step-def
-use Rattle.quernbrae.proofs.step.Symbol.{name as #quernbrae·step}
-use Rattle.quernbrae.proofs.step.Met as step-thm
-use Rattle.quernbrae.proofs.refused.Symbol as refused-def
-use Rattle.quernbrae.proofs.refused.Symbol.{name as #quernbrae·refused}
-use Rattle.quernbrae.proofs.refused.Met as refused-thm
-use Rattle.quernbrae.proofs.one.Key.{name as #quernbrae·one}
-use Rattle.quernbrae.proofs.one as one
-use Rattle.quernbrae.proofs.one.Statement as stated
-use Rattle.quernbrae.proofs.one.Code as code
-use Rattle.quernbrae.proofs.one.Code.Mir as body
+use Rattle.table.specs.declared.Progress.{Progress}
+use Rattle.table.specs.declared.Stepped.{Stepped}
+use Rattle.table.specs.Loop.{oneO, oneP, oneT, outOf, placeAt, refusedOf, steppedOf}
+use Rattle.table.proofs.Progress.Laws as TP′
+use Rattle.table.proofs.Stepped.Laws as TS′
+use Rattle.table.proofs.Values.{R, valsR, tellsR, typedR, madeR, P, valP, valsP, tellsP, typedP, madeP, S, valS, valsS, typedS, after-is, progress-is, tyWords, tyOut, tyOutRef, tyTable, bytes-fit}
+use Rattle.table.proofs.More.{use4, slice-given, cond-yes, cond-no}
+use Rattle.table.proofs.Calls.{PlaceOf, to-place, place-pre, place-post, Step, to-step, step-pre, step-post, Refused, to-refused, progress-pre, refused-post}
+use Rattle.table.proofs.place_of.Symbol as place-def
+use Rattle.table.proofs.place_of.Symbol.{name as #table·place-of}
+use Rattle.table.proofs.place_of.Met as place-thm
+use Rattle.table.proofs.step.Symbol as step-def
+use Rattle.table.proofs.step.Symbol.{name as #table·step}
+use Rattle.table.proofs.step.Met as step-thm
+use Rattle.table.proofs.refused.Symbol as refused-def
+use Rattle.table.proofs.refused.Symbol.{name as #table·refused}
+use Rattle.table.proofs.refused.Met as refused-thm
+use Rattle.table.proofs.one.Key.{name as #table·one}
+use Rattle.table.proofs.one as one
+use Rattle.table.proofs.one.Statement as stated
+use Rattle.table.proofs.one.Code as code
+use Rattle.table.proofs.one.Code.Mir as body
 
 abbrev stayed : Stays (one.ended .signature .params) (one.ended .kept)
 stayed = (stay-none-slice (0 ∷ []) tt (plain (λ _. u32)) yes, (stay-none (λ _. usize) yes, (stay-none (λ _. P) yes, (stay-slice (1 ∷ []) tt (plain (λ _. R)), (gave-slice (2 ∷ []) tt (plain (λ _. u32)), tt)))))
@@ -130,7 +130,7 @@ module _ {M : Type 1} (𝓤 : URA M) (H : Heap 𝓤) (A : Atoms 𝓤) (W : Given
       owned ! P (Is P) (madeP 𝓤 H A W) p _ is-p $ fjoin ! $ owned ! usize (Is usize) (uint-makes 𝓤 H A W w64) end _ (refl, end-fits) $ fjoin ! $ move ! (1 ∷ 0 ∷ []) $ fjoin ! $ frame ! $
       owned ! P (Is P) (madeP 𝓤 H A W) r _ is-r $ done !
 
-  module _ (C : Calls 𝓤 H) (Λ : Loops 𝓤 H) (fm : FmC 𝓤 H (W .laws) C) (known-step : Triple 𝓤 (C #quernbrae·step) (Step 𝓤 H A W at-mem run)) (known-refused : Triple 𝓤 (C #quernbrae·refused) (Refused 𝓤 H A W at-mem run)) (l0 l1 l2 l3 l4 l5 l6 l7 l8 l9 l10 l11 l12 l13 l14 l15 l16 : ℕ) where
+  module _ (C : Calls 𝓤 H) (Λ : Loops 𝓤 H) (fm : FmC 𝓤 H (W .laws) C) (known-step : Triple 𝓤 (C #table·step) (Step 𝓤 H A W at-mem run)) (known-refused : Triple 𝓤 (C #table·refused) (Refused 𝓤 H A W at-mem run)) (l0 l1 l2 l3 l4 l5 l6 l7 l8 l9 l10 l11 l12 l13 l14 l15 l16 : ℕ) where
     abbrev E : Env 𝓤 H
     E = (TP′.mir, l0) ∷ ((tyWords (named 0)), l1) ∷ ((tyInt w64), l2) ∷ (TP′.mir, l3) ∷ ((tyTable (named 1)), l4) ∷ ((tyOut (named 2)), l5) ∷ ((tyInt w64), l6) ∷ (TS′.mir, l7) ∷ ((tyInt w64), l8) ∷ (tyBool, l9) ∷ (TP′.mir, l10) ∷ ((tyInt w64), l11) ∷ (tyPtr, l12) ∷ (TR′.mir, l13) ∷ (tyOutRef, l14) ∷ ((tyOut erased), l15) ∷ (tyPtr, l16) ∷ []
 
@@ -182,7 +182,7 @@ module _ {M : Type 1} (𝓤 : URA M) (H : Heap 𝓤) (A : Atoms 𝓤) (W : Given
         keep ! (1 ∷ 2 ∷ 3 ∷ 4 ∷ 5 ∷ 6 ∷ 0 ∷ 7 ∷ 8 ∷ 9 ∷ 10 ∷ 11 ∷ 12 ∷ 13 ∷ 14 ∷ 15 ∷ 16 ∷ 17 ∷ 18 ∷ 19 ∷ 20 ∷ 21 ∷ 22 ∷ 23 ∷ 24 ∷ 25 ∷ 26 ∷ 27 ∷ 28 ∷ 29 ∷ 30 ∷ 31 ∷ 32 ∷ 33 ∷ 34 ∷ 35 ∷ 36 ∷ 37 ∷ 38 ∷ 39 ∷ 40 ∷ []) $
         leaves (refusedOf p) (e .1) tb (y .now) refl refl (cond-no (ltb i (length tb)) _ _ no′, cond-no (ltb i (length tb)) _ _ no′, cond-no (ltb i (length tb)) _ _ no′))))
 
-  module _ (C : Calls 𝓤 H) (Λ : Loops 𝓤 H) (fm : FmC 𝓤 H (W .laws) C) (known-place : Triple 𝓤 (C #quernbrae·place-of) (PlaceOf 𝓤 H A W at-mem run)) (known-step : Triple 𝓤 (C #quernbrae·step) (Step 𝓤 H A W at-mem run)) (known-refused : Triple 𝓤 (C #quernbrae·refused) (Refused 𝓤 H A W at-mem run)) where
+  module _ (C : Calls 𝓤 H) (Λ : Loops 𝓤 H) (fm : FmC 𝓤 H (W .laws) C) (known-place : Triple 𝓤 (C #table·place-of) (PlaceOf 𝓤 H A W at-mem run)) (known-step : Triple 𝓤 (C #table·step) (Step 𝓤 H A W at-mem run)) (known-refused : Triple 𝓤 (C #table·refused) (Refused 𝓤 H A W at-mem run)) where
     walk : ent 𝓤 (onEntry 𝓤 H A one.signature (κ₀, (κ₁, (κ₂, tt))) (q₀, (q₁, (q₂, tt))) a at) (WpFn 𝓤 H C Λ code.function (sliceVal (w .ptr) (length (w .now)) ∷ vint w64 end ∷ valP p ∷ s₁ ∷ sliceVal (y .ptr) (length (y .now)) ∷ []) Post)
     walk =
         qed W ((‵ (flft κ₀ q₀) ⊛ ‵ (flft κ₁ q₁) ⊛ ‵ (flft κ₂ q₂) ⊛ ‵ ftrue) ∷ ‵ (owns (ShrSlice (named 0) κ₀ u32 ∷ usize ∷ P ∷ MutSlice (named 1) κ₁ R ∷ MutSlice (named 2) κ₂ u32 ∷ []) a at) ∷ []) ∵
@@ -203,7 +203,7 @@ module _ {M : Type 1} (𝓤 : URA M) (H : Heap 𝓤) (A : Atoms 𝓤) (W : Given
         tested C Λ fm known-step known-refused l0 l1 l2 l3 l4 l5 l6 l7 l8 l9 l10 l11 l12 l13 l14 l15 l16)))))))))))))))))))
 
 module _ {M : Type 1} (𝓤 : URA M) (H : Heap 𝓤) (A : Atoms 𝓤) (W : Given 𝓤 H A) (at-mem : Memory → SProp 𝓤) (run : Routine → Fun 𝓤) where
-  one-walks : (C : Calls 𝓤 H) (Λ : Loops 𝓤 H) → FmC 𝓤 H (W .laws) C → Triple 𝓤 (C #quernbrae·place-of) (PlaceOf 𝓤 H A W at-mem run) → Triple 𝓤 (C #quernbrae·step) (Step 𝓤 H A W at-mem run) → Triple 𝓤 (C #quernbrae·refused) (Refused 𝓤 H A W at-mem run)
+  one-walks : (C : Calls 𝓤 H) (Λ : Loops 𝓤 H) → FmC 𝓤 H (W .laws) C → Triple 𝓤 (C #table·place-of) (PlaceOf 𝓤 H A W at-mem run) → Triple 𝓤 (C #table·step) (Step 𝓤 H A W at-mem run) → Triple 𝓤 (C #table·refused) (Refused 𝓤 H A W at-mem run)
       → Walks 𝓤 H A one.ended stayed (WpFn 𝓤 H C Λ code.function) (one.clauses 𝓤 H A at-mem run)
   one-walks C Λ fm k₁ k₂ k₃ = walked 𝓤 H A one.ended stayed (one.clauses 𝓤 H A at-mem run) (WpFn 𝓤 H C Λ code.function)
       (λ κs. (slice-vals, (uint-vals w64, (valsP, (slice-vals, (slice-vals, tt)))))) (λ κs. (shr-slice-tells (named 0) (κs .0) u32, (uint-tells w64, (tellsP, (mut-slice-tells (named 1) (κs .1 .0) R, (mut-slice-tells (named 2) (κs .1 .1 .0) u32, tt))))))
@@ -211,7 +211,7 @@ module _ {M : Type 1} (𝓤 : URA M) (H : Heap 𝓤) (A : Atoms 𝓤) (W : Given
       (walk 𝓤 H A W at-mem run (κs .0) (κs .1 .0) (κs .1 .1 .0) (qs .0) (qs .1 .0) (qs .1 .1 .0) (a .0) (a .1 .0) (a .1 .1 .0) (a .1 .1 .1 .0 .ptr .0) (a .1 .1 .1 .0 .ptr .1) (a .1 .1 .1 .0 .name) (a .1 .1 .1 .0 .now) (a .1 .1 .1 .1 .0)
       (are .0 .0 .1) (are .1 .0 .1) (are .1 .1 .0) (are .1 .1 .1 .0 .0 .1) (are .1 .1 .1 .1 .0 .0 .1) C Λ fm k₁ k₂ k₃))
 
-one-meets : {M : Type 1} (𝓤 : URA M) (H : Heap 𝓤) (A : Atoms 𝓤) (W : Given 𝓤 H A) (mem : Memory → SProp 𝓤) (run : Routine → Fun 𝓤) (𝓣 : Tables 𝓤 H) → Triple 𝓤 (𝓣 .C #quernbrae·place-of) (PlaceOf 𝓤 H A W mem run) → Triple 𝓤 (𝓣 .C #quernbrae·step) (Step 𝓤 H A W mem run) → Triple 𝓤 (𝓣 .C #quernbrae·refused) (Refused 𝓤 H A W mem run)
+one-meets : {M : Type 1} (𝓤 : URA M) (H : Heap 𝓤) (A : Atoms 𝓤) (W : Given 𝓤 H A) (mem : Memory → SProp 𝓤) (run : Routine → Fun 𝓤) (𝓣 : Tables 𝓤 H) → Triple 𝓤 (𝓣 .C #table·place-of) (PlaceOf 𝓤 H A W mem run) → Triple 𝓤 (𝓣 .C #table·step) (Step 𝓤 H A W mem run) → Triple 𝓤 (𝓣 .C #table·refused) (Refused 𝓤 H A W mem run)
     → Meets 𝓤 H A one.signature (WpFn 𝓤 H (𝓣 .C) (𝓣 .Λ) code.function) (one.spec 𝓤 H A mem run)
 one-meets 𝓤 H A W mem run 𝓣 k₁ k₂ k₃ =
     walk-meets 𝓤 H A one.ended stayed W
@@ -222,8 +222,8 @@ pub one-spec : {M : Type 1} → stated.statement M
 unfolding code.routine tablesOf
 one-spec 𝓤 H 𝓜 𝓖 𝓡 =
     entered 𝓤 H (tripleOf 𝓤 H (𝓖 .A) one.signature (one.spec 𝓤 H (𝓖 .A) (𝓜 .mem) (𝓡 .run)))
-    (tables 𝓤 H 𝓜 𝓡 code.env .C) (tables 𝓤 H 𝓜 𝓡 code.env .Λ) #quernbrae·one code.function (code.unfolded 𝓤 H 𝓜 𝓡)
+    (tables 𝓤 H 𝓜 𝓡 code.env .C) (tables 𝓤 H 𝓜 𝓡 code.env .Λ) #table·one code.function (code.unfolded 𝓤 H 𝓜 𝓡)
     (one-meets 𝓤 H (𝓖 .A) (givenOf 𝓤 H 𝓜 𝓖) (𝓜 .mem) (𝓡 .run) (tablesOf 𝓤 H 𝓜 (tables 𝓤 H 𝓜 𝓡 code.env))
-    (cited 𝓤 H (PlaceOf 𝓤 H (𝓖 .A) (givenOf 𝓤 H 𝓜 𝓖) (𝓜 .mem) (𝓡 .run)) 𝓜 𝓡 code.env #quernbrae·place-of place-def.routine code.calls-quernbrae·place-of (place-thm.met 𝓤 H 𝓜 𝓖 𝓡))
-    (cited 𝓤 H (Step 𝓤 H (𝓖 .A) (givenOf 𝓤 H 𝓜 𝓖) (𝓜 .mem) (𝓡 .run)) 𝓜 𝓡 code.env #quernbrae·step step-def.routine code.calls-quernbrae·step (step-thm.met 𝓤 H 𝓜 𝓖 𝓡))
-    (cited 𝓤 H (Refused 𝓤 H (𝓖 .A) (givenOf 𝓤 H 𝓜 𝓖) (𝓜 .mem) (𝓡 .run)) 𝓜 𝓡 code.env #quernbrae·refused refused-def.routine code.calls-quernbrae·refused (refused-thm.met 𝓤 H 𝓜 𝓖 𝓡)))
+    (cited 𝓤 H (PlaceOf 𝓤 H (𝓖 .A) (givenOf 𝓤 H 𝓜 𝓖) (𝓜 .mem) (𝓡 .run)) 𝓜 𝓡 code.env #table·place-of place-def.routine code.calls-table·place-of (place-thm.met 𝓤 H 𝓜 𝓖 𝓡))
+    (cited 𝓤 H (Step 𝓤 H (𝓖 .A) (givenOf 𝓤 H 𝓜 𝓖) (𝓜 .mem) (𝓡 .run)) 𝓜 𝓡 code.env #table·step step-def.routine code.calls-table·step (step-thm.met 𝓤 H 𝓜 𝓖 𝓡))
+    (cited 𝓤 H (Refused 𝓤 H (𝓖 .A) (givenOf 𝓤 H 𝓜 𝓖) (𝓜 .mem) (𝓡 .run)) 𝓜 𝓡 code.env #table·refused refused-def.routine code.calls-table·refused (refused-thm.met 𝓤 H 𝓜 𝓖 𝓡)))

@@ -1,7 +1,7 @@
--- `quernbrae::start` meets its contract: both ask first whether the table has 256 records. Assumes nothing.
+-- `table::start` meets its contract: both ask first whether the table has 256 records. Assumes nothing.
 use borrow.Author.Tests.{eq-eqb, ne-eqb}
-use Rattle.quernbrae.proofs.start.Statement.{statement}
-use Rattle.quernbrae.proofs.start.Tie as tie
+use Rattle.table.proofs.start.Statement.{statement}
+use Rattle.table.proofs.start.Tie as tie
 
 returns : tie.Need-returns
 returns c = simp (eq-eqb _ _ (c .if1 .taken))

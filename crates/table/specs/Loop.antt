@@ -1,4 +1,4 @@
--- How the loop goes, turn by turn, for the private functions: what a turn makes of the progress, the table and the output.
+-- How the loop goes, turn by turn: what a turn makes of the progress, the table and the output.
 use Prim.Native.Nat.{ℕ, zero, suc, _+_, _-_}
 use mathlib.Core.Bool.{Bool, true, false, cond, not, _&&_, _||_}
 use mathlib.Core.List.{List}
@@ -12,9 +12,9 @@ use Rattle.voice.specs.declared.Upped.{Upped}
 use Rattle.voice.specs.Call.{Call, fit, sentOf}
 use Rattle.voice.specs.Packet.{packetUp}
 use Rattle.voice.specs.Output.{upped, written}
-use Rattle.quernbrae.specs.declared.Progress.{Progress}
-use Rattle.quernbrae.specs.declared.Stepped.{Stepped}
-use Rattle.quernbrae.specs.Table.{placeOf}
+use Rattle.table.specs.declared.Progress.{Progress}
+use Rattle.table.specs.declared.Stepped.{Stepped}
+use Rattle.ump.specs.Word.{placeOf}
 
 -- before the first packet of a table of n records, up to the place `end`
 abbrev pub startOf : ℕ → ℕ → Progress
@@ -79,14 +79,3 @@ turns (suc n) ws end s = cond (s .p .more) (turns n ws end (oneOf ws end s)) s
 
 abbrev pub treated : List ℕ → ℕ → List Record → List ℕ → State
 treated ws end tb out = turns (suc (length ws)) ws end (record { p = startOf (length tb) end; tb = tb; out = out })
-
--- what a call, and what a run, reports of the progress
-abbrev pub callOf : Progress → Done
-callOf p = record { answer = p .answer; read = p .read; written = p .written }
-
--- 3, 8, 9 and 10 stop a run; after any other answer it has finished
-abbrev pub finishedOf : ℕ → ℕ
-finishedOf a = cond (eqb a 3 || eqb a 8 || eqb a 9 || eqb a 10) a 0
-
-abbrev pub runOf : Progress → Done
-runOf p = record { answer = finishedOf (p .answer); read = p .read; written = p .written }

@@ -11,10 +11,10 @@ use lib.ListN.{length}
 use lib.Dec.{eqb, ltb}
 use denote.Laws.{Is}
 use Rattle.channel.specs.declared.Record.{Record}
-use Rattle.quernbrae.specs.declared.Progress.{Progress}
-use Rattle.quernbrae.specs.Loop.{State, oneOf, startOf, treated, turns}
-use Rattle.quernbrae.proofs.Values.{P, valsP}
-use Rattle.quernbrae.proofs.StepLaws.{no-more, one-more}
+use Rattle.table.specs.declared.Progress.{Progress}
+use Rattle.table.specs.Loop.{State, oneOf, startOf, treated, turns}
+use Rattle.table.proofs.Values.{P, valsP}
+use Rattle.table.proofs.StepLaws.{no-more, one-more}
 
 -- a turn of the definition, and its end
 pub turns-step : (n : ℕ) (ws : List ℕ) (end : ℕ) (s : State) → 0 < n → s .p .more ≡ true → turns n ws end s ≡ turns (n - 1) ws end (oneOf ws end s)

@@ -1,4 +1,4 @@
--- `quernbrae::step` meets its contract: it adds what `voice::up` reports to the progress. What is read is no more than the words left, and what is
+-- `table::step` meets its contract: it adds what `voice::up` reports to the progress. What is read is no more than the words left, and what is
 -- written no more than the room left, so both sums fit. Assumes nothing.
 use Prim.Native.Nat.{_+_, _<_, _^_}
 use mathlib.Core.Path.{_≡_, ap}
@@ -6,10 +6,10 @@ use native.Mathlib.Omega.{arith}
 use borrow.Author.Needs.{needs}
 use denote.Ref.{now}
 use Rattle.voice.specs.declared.Upped.{Upped}
-use Rattle.quernbrae.specs.Loop.{movedOn, outOf, steppedOf, uppedAt}
-use Rattle.quernbrae.proofs.StepLaws.{read-left, written-left}
-use Rattle.quernbrae.proofs.step.Statement.{statement}
-use Rattle.quernbrae.proofs.step.Tie as tie
+use Rattle.table.specs.Loop.{movedOn, outOf, steppedOf, uppedAt}
+use Rattle.table.proofs.StepLaws.{read-left, written-left}
+use Rattle.table.proofs.step.Statement.{statement}
+use Rattle.table.proofs.step.Tie as tie
 
 add-read : tie.Need-add-read
 add-read c =

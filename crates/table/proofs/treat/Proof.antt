@@ -1,4 +1,4 @@
--- `quernbrae::treat` meets its contract: a walk of its MIR. In each turn of the loop the table and the output are lent again to `one`, for two lifetimes that are made for the call, and come back (`Again.antt`). What the loop keeps is `Turns.antt`'s `Turn`.
+-- `table::treat` meets its contract: a walk of its MIR. In each turn of the loop the table and the output are lent again to `one`, for two lifetimes that are made for the call, and come back (`Again.antt`). What the loop keeps is `Turns.antt`'s `Turn`.
 -- Assumes nothing.
 use mathlib.Core.Path.{_≡_, refl, sym, ap, subst}
 use Prim.Native.Nat.{ℕ, _<_, _^_}
@@ -39,25 +39,25 @@ use denote.Triple.Walked.{says, Stays, stay-none, stay-slice, stay-none-slice, w
 use denote.Exit.{yes}
 use denote.Signature.{plain}
 use Rattle.channel.specs.declared.Record.{Record}
-use Rattle.quernbrae.specs.declared.Progress.{Progress}
-use Rattle.quernbrae.specs.Loop.{State, oneOf, startOf, treated}
-use Rattle.quernbrae.proofs.Progress.Laws as TP′
-use Rattle.quernbrae.proofs.Values.{R, P, valP, valsP, typedP, madeP, tyWords, tyOut, tyOutRef, tyTable, tyTableRef}
-use Rattle.quernbrae.proofs.More.{use6, by-bool}
-use Rattle.quernbrae.proofs.Calls.{Start, to-start, start-pre, start-post, One, to-one, one-pre, one-post}
-use Rattle.quernbrae.proofs.Again.{LentAgain, lends-again, comes-back}
-use Rattle.quernbrae.proofs.Turns.{Turn, begun, Fewer, Fewer-wf, next, fewer, ended-at, first-turn}
-use Rattle.quernbrae.proofs.one.Symbol as one-def
-use Rattle.quernbrae.proofs.one.Symbol.{name as #quernbrae·one}
-use Rattle.quernbrae.proofs.one.Met as one-thm
-use Rattle.quernbrae.proofs.start.Symbol as start-def
-use Rattle.quernbrae.proofs.start.Symbol.{name as #quernbrae·start}
-use Rattle.quernbrae.proofs.start.Met as start-thm
-use Rattle.quernbrae.proofs.treat.Key.{name as #quernbrae·treat}
-use Rattle.quernbrae.proofs.treat as go
-use Rattle.quernbrae.proofs.treat.Statement as stated
-use Rattle.quernbrae.proofs.treat.Code as code
-use Rattle.quernbrae.proofs.treat.Code.Mir as body
+use Rattle.table.specs.declared.Progress.{Progress}
+use Rattle.table.specs.Loop.{State, oneOf, startOf, treated}
+use Rattle.table.proofs.Progress.Laws as TP′
+use Rattle.table.proofs.Values.{R, P, valP, valsP, typedP, madeP, tyWords, tyOut, tyOutRef, tyTable, tyTableRef}
+use Rattle.table.proofs.More.{use6, by-bool}
+use Rattle.table.proofs.Calls.{Start, to-start, start-pre, start-post, One, to-one, one-pre, one-post}
+use Rattle.table.proofs.Again.{LentAgain, lends-again, comes-back}
+use Rattle.table.proofs.Turns.{Turn, begun, Fewer, Fewer-wf, next, fewer, ended-at, first-turn}
+use Rattle.table.proofs.one.Symbol as one-def
+use Rattle.table.proofs.one.Symbol.{name as #table·one}
+use Rattle.table.proofs.one.Met as one-thm
+use Rattle.table.proofs.start.Symbol as start-def
+use Rattle.table.proofs.start.Symbol.{name as #table·start}
+use Rattle.table.proofs.start.Met as start-thm
+use Rattle.table.proofs.treat.Key.{name as #table·treat}
+use Rattle.table.proofs.treat as go
+use Rattle.table.proofs.treat.Statement as stated
+use Rattle.table.proofs.treat.Code as code
+use Rattle.table.proofs.treat.Code.Mir as body
 
 abbrev stayed : Stays (go.ended .signature .params) (go.ended .kept)
 stayed = (stay-none-slice (0 ∷ []) tt (plain (λ _. u32)) yes, (stay-none (λ _. usize) yes, (stay-slice (1 ∷ []) tt (plain (λ _. R)), (stay-slice (2 ∷ []) tt (plain (λ _. u32)), tt))))
@@ -118,7 +118,7 @@ module _ {M : Type 1} (𝓤 : URA M) (H : Heap 𝓤) (A : Atoms 𝓤) (W : Given
       rewrite ! 2 (λ (m : ℕ). ‵ (MutSlice (named 2) κ₂ u32 .own (record { ptr = (c, u); name = η; now = s .out }) (sliceVal (c, u) m ∷ []))) l₂ refl $
       nothing ! $ move ! (3 ∷ 0 ∷ []) $ fjoin ! $ move ! (2 ∷ 0 ∷ []) $ fjoin ! $ owned ! usize (Is usize) (uint-makes 𝓤 H A W w64) end _ (refl, end-fits) $ fjoin ! $ move ! (1 ∷ 0 ∷ []) $ fjoin ! $ frame ! $ owned ! P (Is P) (madeP 𝓤 H A W) (s .p) _ is-p $ done !
 
-  module _ (𝓣 : Tables 𝓤 H) (known-one : Triple 𝓤 (𝓣 .C #quernbrae·one) (One 𝓤 H A W at-mem run)) (l0 l1 l2 l3 l4 l5 l6 l7 l8 l9 l10 l11 : ℕ) where
+  module _ (𝓣 : Tables 𝓤 H) (known-one : Triple 𝓤 (𝓣 .C #table·one) (One 𝓤 H A W at-mem run)) (l0 l1 l2 l3 l4 l5 l6 l7 l8 l9 l10 l11 : ℕ) where
     abbrev C : Calls 𝓤 H
     C = 𝓣 .C
 
@@ -194,7 +194,7 @@ module _ {M : Type 1} (𝓤 : URA M) (H : Heap 𝓤) (A : Atoms 𝓤) (W : Given
     looped : Is P p₀ (valsP p₀) → Sq W (At (begun (w .now) end tb out)) (runs C Λ E body.t-3 (atRet E Post))
     looped g = first ! $ blocks ! $ loops ! 𝓣 (Fewer (w .now) end tb out) (Fewer-wf (w .now) end tb out) I turning (first-turn (w .now) end tb out g)
 
-  module _ (𝓣 : Tables 𝓤 H) (known-one : Triple 𝓤 (𝓣 .C #quernbrae·one) (One 𝓤 H A W at-mem run)) (known-start : Triple 𝓤 (𝓣 .C #quernbrae·start) (Start 𝓤 H A W at-mem run)) where
+  module _ (𝓣 : Tables 𝓤 H) (known-one : Triple 𝓤 (𝓣 .C #table·one) (One 𝓤 H A W at-mem run)) (known-start : Triple 𝓤 (𝓣 .C #table·start) (Start 𝓤 H A W at-mem run)) where
     walk : ent 𝓤 (onEntry 𝓤 H A go.signature (κ₀, (κ₁, (κ₂, tt))) (q₀, (q₁, (q₂, tt))) a at) (WpFn 𝓤 H (𝓣 .C) (𝓣 .Λ) code.function (sliceVal (w .ptr) (length (w .now)) ∷ vint w64 end ∷ sliceVal (b, o) (length tb) ∷ sliceVal (c, u) (length out) ∷ []) Post)
     walk =
         let fm : FmC 𝓤 H (W .laws) (𝓣 .C) = fmOf 𝓤 H (W .laws) 𝓣 in
@@ -211,7 +211,7 @@ module _ {M : Type 1} (𝓤 : URA M) (H : Heap 𝓤) (A : Atoms 𝓤) (W : Given
         keep ! (6 ∷ 2 ∷ 4 ∷ 0 ∷ 8 ∷ 3 ∷ 9 ∷ 10 ∷ 11 ∷ 12 ∷ 13 ∷ 14 ∷ 15 ∷ 16 ∷ 17 ∷ 18 ∷ 19 ∷ 20 ∷ 21 ∷ 22 ∷ 23 ∷ 24 ∷ 25 ∷ 26 ∷ 27 ∷ 28 ∷ 29 ∷ 30 ∷ 31 ∷ 32 ∷ []) $ looped 𝓣 known-one l0 l1 l2 l3 l4 l5 l6 l7 l8 l9 l10 l11 (e .1)))))))))))))))
 
 module _ {M : Type 1} (𝓤 : URA M) (H : Heap 𝓤) (A : Atoms 𝓤) (W : Given 𝓤 H A) (at-mem : Memory → SProp 𝓤) (run : Routine → Fun 𝓤) where
-  treat-walks : (𝓣 : Tables 𝓤 H) → Triple 𝓤 (𝓣 .C #quernbrae·one) (One 𝓤 H A W at-mem run) → Triple 𝓤 (𝓣 .C #quernbrae·start) (Start 𝓤 H A W at-mem run)
+  treat-walks : (𝓣 : Tables 𝓤 H) → Triple 𝓤 (𝓣 .C #table·one) (One 𝓤 H A W at-mem run) → Triple 𝓤 (𝓣 .C #table·start) (Start 𝓤 H A W at-mem run)
       → Walks 𝓤 H A go.ended stayed (WpFn 𝓤 H (𝓣 .C) (𝓣 .Λ) code.function) (go.clauses 𝓤 H A at-mem run)
   treat-walks 𝓣 k₁ k₂ = walked 𝓤 H A go.ended stayed (go.clauses 𝓤 H A at-mem run) (WpFn 𝓤 H (𝓣 .C) (𝓣 .Λ) code.function)
       (λ κs. (slice-vals, (uint-vals w64, (slice-vals, (slice-vals, tt))))) (λ κs. (shr-slice-tells (named 0) (κs .0) u32, (uint-tells w64, (mut-slice-tells (named 1) (κs .1 .0) R, (mut-slice-tells (named 2) (κs .1 .1 .0) u32, tt)))))
@@ -219,7 +219,7 @@ module _ {M : Type 1} (𝓤 : URA M) (H : Heap 𝓤) (A : Atoms 𝓤) (W : Given
       (walk 𝓤 H A W at-mem run (κs .0) (κs .1 .0) (κs .1 .1 .0) (qs .0) (qs .1 .0) (qs .1 .1 .0) (a .0) (a .1 .0) (a .1 .1 .0 .ptr .0) (a .1 .1 .0 .ptr .1) (a .1 .1 .0 .name) (a .1 .1 .0 .now) (a .1 .1 .1 .0 .ptr .0) (a .1 .1 .1 .0 .ptr .1) (a .1 .1 .1 .0 .name) (a .1 .1 .1 .0 .now)
       (are .0 .0 .1) (are .1 .0 .1) (are .1 .1 .0 .0 .1) (are .1 .1 .1 .0 .0 .1) 𝓣 k₁ k₂))
 
-treat-meets : {M : Type 1} (𝓤 : URA M) (H : Heap 𝓤) (A : Atoms 𝓤) (W : Given 𝓤 H A) (mem : Memory → SProp 𝓤) (run : Routine → Fun 𝓤) (𝓣 : Tables 𝓤 H) → Triple 𝓤 (𝓣 .C #quernbrae·one) (One 𝓤 H A W mem run) → Triple 𝓤 (𝓣 .C #quernbrae·start) (Start 𝓤 H A W mem run)
+treat-meets : {M : Type 1} (𝓤 : URA M) (H : Heap 𝓤) (A : Atoms 𝓤) (W : Given 𝓤 H A) (mem : Memory → SProp 𝓤) (run : Routine → Fun 𝓤) (𝓣 : Tables 𝓤 H) → Triple 𝓤 (𝓣 .C #table·one) (One 𝓤 H A W mem run) → Triple 𝓤 (𝓣 .C #table·start) (Start 𝓤 H A W mem run)
     → Meets 𝓤 H A go.signature (WpFn 𝓤 H (𝓣 .C) (𝓣 .Λ) code.function) (go.spec 𝓤 H A mem run)
 treat-meets 𝓤 H A W mem run 𝓣 k₁ k₂ =
     walk-meets 𝓤 H A go.ended stayed W
@@ -230,7 +230,7 @@ pub treat-spec : {M : Type 1} → stated.statement M
 unfolding code.routine tablesOf
 treat-spec 𝓤 H 𝓜 𝓖 𝓡 =
     entered 𝓤 H (tripleOf 𝓤 H (𝓖 .A) go.signature (go.spec 𝓤 H (𝓖 .A) (𝓜 .mem) (𝓡 .run)))
-    (tables 𝓤 H 𝓜 𝓡 code.env .C) (tables 𝓤 H 𝓜 𝓡 code.env .Λ) #quernbrae·treat code.function (code.unfolded 𝓤 H 𝓜 𝓡)
+    (tables 𝓤 H 𝓜 𝓡 code.env .C) (tables 𝓤 H 𝓜 𝓡 code.env .Λ) #table·treat code.function (code.unfolded 𝓤 H 𝓜 𝓡)
     (treat-meets 𝓤 H (𝓖 .A) (givenOf 𝓤 H 𝓜 𝓖) (𝓜 .mem) (𝓡 .run) (tablesOf 𝓤 H 𝓜 (tables 𝓤 H 𝓜 𝓡 code.env))
-    (cited 𝓤 H (One 𝓤 H (𝓖 .A) (givenOf 𝓤 H 𝓜 𝓖) (𝓜 .mem) (𝓡 .run)) 𝓜 𝓡 code.env #quernbrae·one one-def.routine code.calls-quernbrae·one (one-thm.met 𝓤 H 𝓜 𝓖 𝓡))
-    (cited 𝓤 H (Start 𝓤 H (𝓖 .A) (givenOf 𝓤 H 𝓜 𝓖) (𝓜 .mem) (𝓡 .run)) 𝓜 𝓡 code.env #quernbrae·start start-def.routine code.calls-quernbrae·start (start-thm.met 𝓤 H 𝓜 𝓖 𝓡)))
+    (cited 𝓤 H (One 𝓤 H (𝓖 .A) (givenOf 𝓤 H 𝓜 𝓖) (𝓜 .mem) (𝓡 .run)) 𝓜 𝓡 code.env #table·one one-def.routine code.calls-table·one (one-thm.met 𝓤 H 𝓜 𝓖 𝓡))
+    (cited 𝓤 H (Start 𝓤 H (𝓖 .A) (givenOf 𝓤 H 𝓜 𝓖) (𝓜 .mem) (𝓡 .run)) 𝓜 𝓡 code.env #table·start start-def.routine code.calls-table·start (start-thm.met 𝓤 H 𝓜 𝓖 𝓡)))

@@ -21,12 +21,12 @@ use Rattle.channel.proofs.Record.Laws as TR′
 use Rattle.voice.specs.declared.Done.{Done}
 use Rattle.voice.proofs.Done as TD
 use Rattle.voice.proofs.Done.Laws as TD′
-use Rattle.quernbrae.specs.declared.Progress.{Progress}
-use Rattle.quernbrae.specs.declared.Stepped.{Stepped}
-use Rattle.quernbrae.proofs.Progress as TP
-use Rattle.quernbrae.proofs.Progress.Laws as TP′
-use Rattle.quernbrae.proofs.Stepped as TS
-use Rattle.quernbrae.proofs.Stepped.Laws as TS′
+use Rattle.table.specs.declared.Progress.{Progress}
+use Rattle.table.specs.declared.Stepped.{Stepped}
+use Rattle.table.proofs.Progress as TP
+use Rattle.table.proofs.Progress.Laws as TP′
+use Rattle.table.proofs.Stepped as TS
+use Rattle.table.proofs.Stepped.Laws as TS′
 
 -- ---- Record
 abbrev pub R : RattleType
