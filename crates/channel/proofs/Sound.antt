@@ -1,12 +1,12 @@
 -- Soundness: the short tree that the code asks is the row of the definition, and each method keeps it. Assumes nothing.
-use mathlib.Core.Path.{_≡_, refl, sym, ap, _∙_}
+use mathlib.Core.Path.{_≡_, refl, sym, _∙_}
 use mathlib.Core.Bool.{Bool, true, false, false≢true, cond, not, _&&_, _||_}
 use Prim.Native.Nat.{ℕ, _≤_}
 use lib.Dec.{eqb, leb}
 use native.Mathlib.Omega.{arith}
 use borrow.Author.Tests.{eq-eqb, le-leb, leb-true, ne-eqb, not-true}
 use Rattle.channel.specs.declared.Record.{Record}
-use Rattle.channel.specs.Record.{StaysSound, addressed, complete, dataHighPresent, empty, kept, null, number, present, sound, withAddressBank, withAddressIndex, withBankHigh, withBankLow, withBankSpent, withDataHigh}
+use Rattle.channel.specs.Record.{StaysSound, addressed, complete, dataHighPresent, kept, null, number, present, sound, withAddressBank, withAddressIndex, withBankHigh, withBankLow, withBankSpent, withDataHigh}
 use Rattle.channel.proofs.Bools.{and-left, and-right, bools}
 
 -- The tree of the code, way by way, over the tests. `m`: the bank halves are numbers; `l` and `z`: the kind is at most 2, is none; `p` and `x`: the

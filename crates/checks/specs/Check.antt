@@ -1,7 +1,7 @@
 -- The second stage, check: answers 6 and 7 (01 "What is checked"). A packet is given by its first two words; the second
 -- is 0 where it has one word.
 use Prim.Native.Nat.{ℕ}
-use mathlib.Core.Bool.{Bool, true, false, cond, not, _&&_, _||_}
+use mathlib.Core.Bool.{Bool, true, cond, not, _&&_, _||_}
 use mathlib.Core.List.{List, [], _∷_, map}
 use lib.ListN.{take}
 use lib.Dec.{eqb, leb}

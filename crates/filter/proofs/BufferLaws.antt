@@ -1,7 +1,7 @@
 -- A run reads no more words than it is given, and sends no more than its output holds; what a buffer is filled with fits in it.
 -- Assumes nothing.
 use Prim.Native.Nat.{ℕ, zero, suc, pred, _+_, _*_, _-_, _/_, _≤_}
-use mathlib.Core.Path.{_≡_, refl, sym, ap, _∙_}
+use mathlib.Core.Path.{_≡_, ap, _∙_}
 use mathlib.Core.List.{List, [], _∷_}
 use native.Mathlib.Omega.{arith}
 use lib.ListN.{drop, length, length-append, length-drop, length-take, take}

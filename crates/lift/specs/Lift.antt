@@ -1,7 +1,7 @@
 -- Going up: a MIDI 1.0 message goes in with the record, and a new record comes out, and a MIDI 2.0 message or none
 -- (01 "The channel record"; 004 D.3).
 use Prim.Native.Nat.{ℕ, _+_, _*_, _%_, _^_}
-use mathlib.Core.Bool.{Bool, cond, _&&_, _||_}
+use mathlib.Core.Bool.{cond, _&&_, _||_}
 use mathlib.Core.Option.{Option, none, some}
 use lib.Dec.{eqb}
 use Rattle.scale.specs.Scale.{up}

@@ -1,11 +1,8 @@
 -- What is written reads back as itself: the fields of a built word, and then each message by its status. Assumes nothing.
-use mathlib.Core.Path.{_≡_, refl, sym, ap, ap₂, _∙_}
-use mathlib.Core.Bool.{Bool, true, false, cond, _&&_, _||_}
-use mathlib.Core.List.{List, [], _∷_}
+use mathlib.Core.Path.{_≡_, ap}
+use mathlib.Core.Bool.{cond}
 use Prim.Native.Nat.{ℕ, _+_, _*_, _/_, _%_, _^_, _<_, _≤_}
 use native.Mathlib.Omega.{arith}
-use lib.Dec.{eqb, leb}
-use borrow.Author.Tests.{le-leb}
 use Rattle.ump.specs.declared.Group.{Group}
 use Rattle.ump.specs.declared.Channel.{Channel}
 use Rattle.ump.specs.Word.{bankFlag, bits, byte1, byte3, byte4, channelOf, data1, data2, groupOf, messageType, status}

@@ -1,29 +1,27 @@
 -- One turn of the loop is the call with the table; the loop with the end 1 is one call, and with the end of the words it is the run.
 -- Assumes nothing.
-use Prim.Native.Nat.{ℕ, zero, suc, _+_, _-_, _*_, _≤_, _<_}
+use Prim.Native.Nat.{ℕ, zero, suc, _+_, _-_, _≤_, _<_}
 use mathlib.Core.Path.{_≡_, refl, sym, ap, _∙_, subst}
-use mathlib.Core.Bool.{Bool, true, false, cond, not, _&&_, true≢false}
-use mathlib.Core.List.{List, [], _∷_, _++_}
+use mathlib.Core.Bool.{Bool, true, false, cond, not, _&&_}
+use mathlib.Core.List.{List, []}
 use native.Mathlib.Omega.{arith}
 use native.Mathlib.Nat.{add-zero, zero-add, sub-zero}
 use lib.Dec.{eqb, ltb}
 use lib.ListN.{drop, getD, length, set, length-set}
 use lib.Seq.{drop-cons, getD-drop}
-use borrow.Author.Tests.{eq-eqb, eqb-true, eqb-false, lt-ltb, le-ltb, ltb-true, ltb-false, ne-eqb}
+use borrow.Author.Tests.{eqb-true, eqb-false, lt-ltb, le-ltb, ltb-true, ltb-false}
 use Rattle.ump.specs.Packet.{cut, packet, size}
-use Rattle.ump.specs.Word.{channelOf, groupOf}
 use Rattle.ump.proofs.PacketLaws.{size-range}
 use Rattle.channel.specs.declared.Record.{Record}
 use Rattle.channel.specs.Record.{empty}
 use Rattle.voice.specs.declared.Done.{Done}
-use Rattle.voice.specs.Call.{Call, answerOf, fit, leftOf, readOf, sentOf, stopped, went, within}
+use Rattle.voice.specs.Call.{Call, fit, leftOf, sentOf, stopped, within}
 use Rattle.voice.specs.Packet.{callDown, callUp, first, packetDown, packetUp}
 use Rattle.voice.specs.Output.{done, upped, written}
-use Rattle.table.specs.declared.Progress.{Progress}
 use Rattle.quernbrae.specs.Run.{Ran, atStart, reported, run}
 use Rattle.ump.specs.Word.{placeOf}
-use Rattle.quernbrae.specs.Table.{runUp, stored, tableUp}
-use Rattle.table.specs.Loop.{State, callAt, oneOf, outOf, placeAt, startOf, steppedOf, treated, turns, uppedAt}
+use Rattle.quernbrae.specs.Table.{runUp, tableUp}
+use Rattle.table.specs.Loop.{State, oneOf, outOf, startOf, steppedOf, treated, turns, uppedAt}
 use Rattle.quernbrae.specs.Report.{callOf, finishedOf, runOf}
 use Rattle.quernbrae.proofs.RunLoop.{Did, DidRun, Inside, Runs, Then, finish, start, turn}
 use Rattle.quernbrae.proofs.TableLaws.{numbers, table-inside, table-near, up-inside, up-numbered, with-table}

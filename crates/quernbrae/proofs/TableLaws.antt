@@ -2,7 +2,7 @@
 use Prim.Native.Nat.{ℕ, zero, suc, _-_, _≤_}
 use mathlib.Core.Path.{_≡_, refl, sym, ap, _∙_, subst}
 use mathlib.Core.Bool.{Bool, true, false, cond}
-use mathlib.Core.Logic.{_⊎_, inl, inr, ⊎-elim}
+use mathlib.Core.Logic.{_⊎_, ⊎-elim}
 use mathlib.Core.Option.{Option, none, some}
 use mathlib.Core.List.{List, [], _∷_}
 use native.Mathlib.Omega.{arith}
@@ -14,16 +14,15 @@ use Rattle.ump.specs.declared.Typed.the-variants.{Cut, Reserved, WrongProtocol,
 use Rattle.checks.specs.declared.Checked.{Checked}
 use Rattle.checks.specs.declared.Checked.the-variants.{Good, BadStatus, BadData}
 use Rattle.ump.specs.Word.{channelOf, groupOf}
-use Rattle.ump.specs.Types.{typeDown, typeUp, typed}
+use Rattle.ump.specs.Types.{typeUp, typed}
 use Rattle.ump.specs.Packet.{packet, size}
 use Rattle.ump.proofs.PacketLaws.{packet-near, packet-size, size-range}
 use Rattle.channel.specs.declared.Record.{Record}
 use Rattle.channel.specs.Record.{empty, sound}
-use Rattle.message.specs.Message.{Midi1, Midi2, read1, read2}
+use Rattle.message.specs.Message.{Midi2, read1}
 use Rattle.lift.specs.Lift.{lift}
-use Rattle.lower.specs.Lower.{lower}
 use Rattle.voice.specs.Call.{Call, answerOf, fit, leftOf, readOf, sentOf, stopped, went}
-use Rattle.voice.specs.Packet.{callDown, callUp, checked, first, found, packetDown, packetUp, second, sending, sendingDown, speakDown, speakUp, staged}
+use Rattle.voice.specs.Packet.{callDown, callUp, checked, first, found, packetDown, packetUp, sending, speakUp, staged}
 use Rattle.ump.specs.Word.{placeOf}
 use Rattle.quernbrae.specs.Table.{stored, tableUp}
 use Rattle.quernbrae.specs.Report.{finishedOf}

@@ -1,6 +1,6 @@
 -- The laws of scaling, each once over the widths: what is filled in stays below the places filled, so that
 -- dropping them gives the value back, the wider width holds it, and order is kept. Assumes nothing.
-use mathlib.Core.Path.{_≡_, refl, sym, _∙_, ap, subst}
+use mathlib.Core.Path.{_≡_, sym, _∙_, ap, subst}
 use mathlib.Core.Bool.{Bool, true, false, cond}
 use Prim.Native.Nat.{ℕ, zero, suc, _+_, _-_, _*_, _/_, _%_, _^_, _<_, _≤_}
 use native.Mathlib.Omega.{arith}
@@ -9,7 +9,7 @@ use native.Mathlib.Numerals.{add-one}
 use lib.Dec.{leb}
 use borrow.Author.Tests.{le-leb, lt-leb}
 use lib.Arith.{digits-div, digits-lt}
-use lib.Pow.{pow-pos, pow-add, pow-lt, pow-mono, shl-exact, shr-shr, shr-mod, mod-pow-add, field, ones-split, high}
+use lib.Pow.{pow-pos, pow-add, pow-lt, pow-mono, shl-exact, shr-shr, mod-pow-add, field, ones-split, high}
 use Rattle.scale.specs.Scale.{CoreRules, down, fill, up}
 
 -- what is filled in stays below the places that are filled

@@ -1,6 +1,6 @@
 -- How the loop goes, turn by turn: what a turn makes of the progress, the table and the output.
 use Prim.Native.Nat.{ℕ, zero, suc, _+_, _-_}
-use mathlib.Core.Bool.{Bool, true, false, cond, not, _&&_, _||_}
+use mathlib.Core.Bool.{false, cond, not, _&&_}
 use mathlib.Core.List.{List}
 use lib.ListN.{drop, getD, length, set}
 use lib.Dec.{eqb, ltb}

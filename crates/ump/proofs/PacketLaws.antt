@@ -1,14 +1,14 @@
 -- Packets: sizes are 1 to 4; the packet that stands first, at a place of the words; and that cutting undoes joining.
 -- Assumes nothing.
 use Prim.Native.Nat.{ℕ, zero, suc, pred, _+_, _-_, _*_, _/_, _%_, _^_, _≤_, _<_}
-use mathlib.Core.Path.{_≡_, refl, sym, ap, _∙_}
+use mathlib.Core.Path.{_≡_, refl, ap, _∙_}
 use mathlib.Core.Bool.{Bool, true, false, cond}
 use mathlib.Core.List.{List, [], _∷_, _++_}
 use native.Mathlib.Omega.{arith}
 use mathlib.Core.Logic.{_⊎_, inl, inr}
 use lib.Dec.{leb}
 use lib.ListN.{length, getD, take, drop, drop-of-length-le, length-drop, length-take}
-use lib.Seq.{take-at, drop-at, drop-cons, drop-drop, take-all, take-take, length-take-le}
+use lib.Seq.{take-at, drop-at, drop-cons, drop-drop, take-all, take-take}
 use borrow.Author.Tests.{le-leb, lt-leb, leb-true, leb-false}
 use Rattle.ump.specs.Word.{messageType}
 use Rattle.ump.specs.Packet.{Whole, cut, cutAfter, packet, size, sizes}

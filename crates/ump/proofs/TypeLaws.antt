@@ -7,8 +7,7 @@ use native.Mathlib.Omega.{arith}
 use lib.Dec.{eqb}
 use lib.ListN.{getD}
 use borrow.Author.Tests.{eqb-true}
-use Rattle.ump.specs.declared.Typed.{Typed}
-use Rattle.ump.specs.declared.Typed.the-variants.{Cut, Reserved, WrongProtocol, Voice, Onward}
+use Rattle.ump.specs.declared.Typed.the-variants.{Reserved, WrongProtocol, Voice, Onward}
 use Rattle.ump.specs.Word.{messageType}
 use Rattle.ump.specs.Types.{reserved, typed}
 

@@ -1,15 +1,13 @@
 -- What a packet does, as values: the two ways of a voice message, that at most four words are sent, and the room of the output.
 -- Assumes nothing.
 use mathlib.Core.Path.{_≡_, refl, sym, ap, _∙_}
-use mathlib.Core.Bool.{Bool, true, false, cond, false≢true, true≢false, _&&_, _||_}
+use mathlib.Core.Bool.{Bool, true, false, cond, false≢true, true≢false}
 use mathlib.Core.Option.{Option, none, some}
 use mathlib.Core.List.{List, [], _∷_, map}
 use Prim.Native.Nat.{ℕ, _-_, _≤_}
 use native.Mathlib.Omega.{arith}
-use lib.Dec.{eqb, leb, leb·zero}
+use lib.Dec.{leb, leb·zero}
 use lib.ListN.{length, length-map}
-use Rattle.ump.specs.declared.Group.{Group}
-use Rattle.ump.specs.declared.Channel.{Channel}
 use Rattle.ump.specs.declared.Typed.{Typed}
 use Rattle.ump.specs.declared.Typed.the-variants.{Cut, Reserved, WrongProtocol, Voice, Onward}
 use Rattle.checks.specs.declared.Checked.{Checked}
@@ -31,7 +29,7 @@ use Rattle.voice.specs.Packet.{checked, first, found, packetDown, packet
 use Rattle.lift.specs.Values.{voiced, voicedBy}
 use Rattle.lower.specs.Values.{packed}
 use Rattle.lower.proofs.LowerLaws.{lower-few}
-use Rattle.voice.specs.Output.{acted, actedUp, done, wordsOf, written}
+use Rattle.voice.specs.Output.{acted, actedUp, done, written}
 use Rattle.voice.proofs.OutputLaws.{Put, packed-words, written-none}
 
 -- a MIDI 1.0 message that sends, and one that is taken in

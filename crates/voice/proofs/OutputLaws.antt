@@ -1,14 +1,14 @@
 -- Words stored into a lent output, and the room it has. Assumes nothing.
 use mathlib.Core.Path.{_≡_, refl, sym, ap, _∙_}
 use mathlib.Core.Bool.{Bool, true, false, cond}
-use mathlib.Core.List.{List, [], _∷_, _++_, append-nil}
-use Prim.Native.Nat.{ℕ, zero, suc, _+_, _-_, _≤_, _<_}
+use mathlib.Core.List.{List, [], _∷_, append-nil}
+use Prim.Native.Nat.{ℕ, zero, _-_, _≤_, _<_}
 use native.Mathlib.Omega.{arith}
 use native.Mathlib.Nat.{add-zero}
 use borrow.Author.Tests.{le-leb, lt-leb}
 use lib.Dec.{leb}
-use lib.ListN.{length, getD, take, drop, set, length-take, take-append-drop}
-use lib.Seq.{sets, sets-eq, take-all}
+use lib.ListN.{length, take, drop, set, length-take, take-append-drop}
+use lib.Seq.{sets, sets-eq}
 use Rattle.lower.specs.declared.Sent.{Sent}
 use Rattle.lower.specs.Values.{packed}
 use Rattle.voice.specs.Output.{wordsOf, written}

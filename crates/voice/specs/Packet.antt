@@ -17,7 +17,7 @@ use Rattle.checks.specs.Check.{check}
 use Rattle.channel.specs.declared.Record.{Record}
 use Rattle.channel.specs.Record.{sound}
 use Rattle.message.specs.Message.{Midi1, Midi2, read1, read2, write1, write2}
-use Rattle.lift.specs.Lift.{Lifted, lift}
+use Rattle.lift.specs.Lift.{lift}
 use Rattle.lower.specs.Lower.{lower}
 use Rattle.voice.specs.Call.{Call, stopped, went}
 

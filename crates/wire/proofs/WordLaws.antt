@@ -1,10 +1,10 @@
 -- Words as bytes: how many there are, and which stands at a place. Assumes nothing.
 use Prim.Native.Nat.{ℕ, zero, suc, _+_, _*_, _/_, _-_, _≤_, _<_, min}
-use mathlib.Core.Path.{_≡_, refl, sym, ap, _∙_}
-use mathlib.Core.List.{List, [], _∷_, _++_, append-assoc}
+use mathlib.Core.Path.{_≡_, refl, ap, _∙_}
+use mathlib.Core.List.{List, [], _∷_, _++_}
 use native.Mathlib.Omega.{arith}
 use native.Mathlib.Numerals.{add-one}
-use lib.ListN.{length, getD, take, drop, set, length-append, length-drop, length-take}
+use lib.ListN.{length, getD, take, drop, set, length-drop, length-take}
 use lib.Seq.{getD-drop, getD-take, length-take-le, sets, slice, take-suc}
 use Rattle.wire.specs.Words.{bytesOf, fourBytes, word, wordAt, wordsOf}
 use Rattle.wire.proofs.Stores.{getD-sets, sets-append, sets-more}

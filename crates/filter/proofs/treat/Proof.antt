@@ -1,8 +1,6 @@
 -- `filter::treat` meets its contract: a run reads no more words than it is given, and sends no more than its output holds. Assumes nothing.
-use Prim.Native.Nat.{_≤_}
 use native.Mathlib.Omega.{arith}
 use borrow.Author.Needs.{needs}
-use lib.ListN.{length}
 use Rattle.filter.proofs.BufferLaws.{read-most, sent-most}
 use Rattle.filter.proofs.treat.Statement.{statement}
 use Rattle.filter.proofs.treat.Tie as tie

@@ -1,6 +1,5 @@
 -- `flow::list` meets its contract: a call that stops has no line, and any other has its line where there is room. Assumes nothing.
-use mathlib.Core.Path.{_≡_, refl}
-use native.Mathlib.Omega.{arith}
+use mathlib.Core.Path.{_≡_}
 use borrow.Author.Needs.{needs}
 use Prim.Native.Nat.{_-_, _≤_}
 use lib.ListN.{drop, length, take}

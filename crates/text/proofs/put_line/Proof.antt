@@ -1,5 +1,4 @@
 -- `text::put_line` meets its contract: the parts of the line are stored one after the other. Assumes nothing.
-use mathlib.Core.Path.{_∙_}
 use native.Mathlib.Omega.{arith}
 use borrow.Author.Needs.{needs}
 use lib.ListN.{length-set}

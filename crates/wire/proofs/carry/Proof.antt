@@ -1,10 +1,10 @@
 -- `wire::carry` meets its contract. The loop's invariant: the bytes passed stand at the front, and nothing behind them was stored
 -- over. The measure is the bytes left. Assumes nothing.
-use Prim.Native.Nat.{_+_, _-_, _≤_, min}
-use mathlib.Core.Path.{_≡_, refl, ap, _∙_}
+use Prim.Native.Nat.{_-_, _≤_}
+use mathlib.Core.Path.{_≡_, refl}
 use native.Mathlib.Omega.{arith}
 use borrow.Author.Needs.{needs}
-use lib.ListN.{drop-of-length-le, length, length-drop, length-take, take}
+use lib.ListN.{drop-of-length-le, length, length-take, take}
 use lib.Seq.{sets, slice, take-all}
 use Rattle.wire.proofs.WordLaws.{moved-more, slice-length}
 use Rattle.wire.proofs.carry.Statement.{statement}

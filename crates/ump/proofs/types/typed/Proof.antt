@@ -4,7 +4,7 @@ use mathlib.Core.Path.{refl}
 use borrow.Author.Needs.{needs}
 use borrow.Author.Tests.{eq-eqb, ne-eqb}
 use denote.Ref.{now}
-use Rattle.ump.specs.Types.{reserved, typed}
+use Rattle.ump.specs.Types.{typed}
 use Rattle.ump.proofs.PacketLaws.{at-none, at-first}
 use Rattle.ump.proofs.types.typed.Statement.{statement}
 use Rattle.ump.proofs.types.typed.Tie as tie

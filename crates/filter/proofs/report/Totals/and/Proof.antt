@@ -1,7 +1,6 @@
 -- `filter::report::Totals::and` is safe and ends: the index stays below the number of counts. Assumes nothing.
 use Prim.Native.Nat.{_-_, _≤_}
 use native.Mathlib.Omega.{arith}
-use borrow.Author.Needs.{needs}
 use Rattle.filter.proofs.report.Totals.and.Statement.{statement}
 use Rattle.filter.proofs.report.Totals.and.Tie as tie
 
