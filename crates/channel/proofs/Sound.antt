@@ -117,11 +117,8 @@ present-small n h p = leb-true n 127 (go (leb n 127) (eqb n 255) h p)
 
 -- what a sound record with data high says of its address
 pub record Opened (r : Record) : Type 0 where
-  pub data-small : r .«data_high» ≤ 127
   pub bank-small : r .«address_bank» ≤ 127
   pub index-small : r .«address_index» ≤ 127
-  pub known : leb (r .kind) 2 ≡ true
-  pub some : eqb (r .kind) 0 ≡ false
   pub not-null : null r ≡ false
 
 pub opened : (r : Record) → sound r ≡ true → dataHighPresent r ≡ true → Opened r
@@ -131,11 +128,8 @@ opened r t p =
     let c = and-left (complete r) (not (null r)) e in
     let b = and-right (not (eqb (r .kind) 0)) (present (r .«address_bank») && present (r .«address_index»)) c in
     record {
-      data-small = present-small (r .«data_high») (q .data-number) p;
       bank-small = present-small (r .«address_bank») (q .bank) (and-left (present (r .«address_bank»)) (present (r .«address_index»)) b);
       index-small = present-small (r .«address_index») (q .index) (and-right (present (r .«address_bank»)) (present (r .«address_index»)) b);
-      known = q .kind-known;
-      some = not-true (eqb (r .kind) 0) (and-left (not (eqb (r .kind) 0)) (present (r .«address_bank») && present (r .«address_index»)) c);
       not-null = not-true (null r) (and-right (complete r) (not (null r)) e);
     }
 

@@ -107,14 +107,6 @@ up-numbered r p = staged-numbered (typeUp p) (found p) r (went 0 p r) (speakUp r
     spoken true (some m) = refl
     spoken false o = refl
 
-fit-numbered : {T : Type 0} (room : ℕ) (c : Call T) → Numbered c → Numbered (fit room c)
-fit-numbered {T} room (went a ws u) h = go (leb (length ws) room)
-  where
-    go : (b : Bool) → Numbered (cond {A = Call (ℕ × T)} b (went a ws (room - length ws, u)) (stopped 9))
-    go true = h
-    go false = refl
-fit-numbered room (stopped a) h = h
-
 -- what a call at a packet of k words, its size n, says of its number
 pub numbers : {T : Type 0} (room k n l : ℕ) (c : Call T) → Numbered c → Inside k n l c → 1 ≤ n
     → ((readOf k (fit room c) ≡ 0 → ⊥) → finishedOf (answerOf (fit room c)) ≡ 0) × (readOf k (fit room c) ≡ 0 → finishedOf (answerOf (fit room c)) ≡ answerOf (fit room c))
