@@ -1,4 +1,5 @@
--- The channel record (01 "The channel record"): soundness, the empty record, and what each control change makes of a record.
+-- The channel record (RULES 5; 01 "The channel record"): soundness, the empty record, and what each control change makes of
+-- a record.
 use Prim.Native.Nat.{ℕ, _≤_}
 use mathlib.Core.Bool.{Bool, true, cond, not, _&&_, _||_}
 use mathlib.Core.Path.{_≡_}
@@ -7,9 +8,9 @@ use lib.ListN.{replicate}
 use lib.Dec.{eqb, leb}
 use Rattle.channel.specs.declared.Record.{Record}
 
--- The address kinds: "none, registered, assignable".
-abbrev pub none : ℕ
-none = 0
+-- the address kinds (RULES 5.1)
+abbrev pub noAddress : ℕ
+noAddress = 0
 
 abbrev pub registered : ℕ
 registered = 1
@@ -17,18 +18,18 @@ registered = 1
 abbrev pub assignable : ℕ
 assignable = 2
 
--- "Each number is 0 to 127 or missing." Missing is held as 255.
+-- how a number that is missing is held
 abbrev pub missing : ℕ
 missing = 255
 
 abbrev pub present : ℕ → Bool
 present n = not (eqb n missing)
 
--- "everything missing, kind none"
+-- no address, and nothing present
 abbrev pub empty : Record
 empty =
     record {
-      kind = none;
+      kind = noAddress;
       «bank_high» = missing;
       «bank_low» = missing;
       «address_bank» = missing;
@@ -36,33 +37,37 @@ empty =
       «data_high» = missing;
     }
 
--- "A fresh table has 256 records, all empty"
+-- how many records a table has, and a table in which each is empty
+abbrev pub wholeTable : ℕ
+wholeTable = 256
+
 abbrev pub fresh : List Record
-fresh = replicate 256 empty
+fresh = replicate wholeTable empty
 
--- "complete": a kind, and both address halves present
+-- an address is complete: a kind, and both address halves present
 abbrev pub complete : Record → Bool
-complete r = not (eqb (r .kind) none) && (present (r .«address_bank») && present (r .«address_index»))
+complete r = not (eqb (r .kind) noAddress) && (present (r .«address_bank») && present (r .«address_index»))
 
--- "registered 127/127, the null address"; "assignable 127/127 is an ordinary address"
+-- the null address: both halves 127, of the registered kind only
 abbrev pub null : Record → Bool
 null r = eqb (r .kind) registered && (eqb (r .«address_bank») 127 && eqb (r .«address_index») 127)
 
--- "data high present"
 abbrev pub dataHighPresent : Record → Bool
 dataHighPresent r = present (r .«data_high»)
 
--- "no number exceeds 127", for one number: 0 to 127, or missing
+-- a number of a record: at most 127, or missing
 abbrev pub number : ℕ → Bool
 number n = leb n 127 || eqb n missing
 
--- "It is sound if no number exceeds 127, if with kind none the last three are missing, and if data high is present only when both
--- address halves are present and the address is not registered 127/127". A kind is none, registered or assignable.
+-- A sound record (RULES 5.2): each number is one; the kind is one of the three; without a kind there is neither address nor
+-- data high; and data high stands only beside a complete address that is not null.
 unfoldable pub sound : Record → Bool
 sound r =
     (number (r .«bank_high») && number (r .«bank_low»))
-    && ((leb (r .kind) assignable && (number (r .«address_bank») && (number (r .«address_index») && number (r .«data_high»))))
-    && ((not (eqb (r .kind) none) || not (present (r .«address_bank») || (present (r .«address_index») || present (r .«data_high»))))
+    && ((leb (r .kind) assignable
+    && (number (r .«address_bank») && (number (r .«address_index») && number (r .«data_high»))))
+    && ((not (eqb (r .kind) noAddress)
+    || not (present (r .«address_bank») || (present (r .«address_index») || present (r .«data_high»))))
     && (not (dataHighPresent r) || (complete r && not (null r)))))
 
 -- the record with other bank halves
@@ -89,41 +94,45 @@ addressed kind bank index high r =
       «data_high» = high;
     }
 
--- "0 and 32 set bank high and bank low."
+-- control changes 0 and 32 (RULES 5.3)
 abbrev pub withBankHigh : Record → ℕ → Record
 withBankHigh r v = banked v (r .«bank_low») r
 
 abbrev pub withBankLow : Record → ℕ → Record
 withBankLow r v = banked (r .«bank_high») v r
 
--- "Same kind: the other half stays. Other kind or none: the other half becomes missing."
+-- The half of an address that a control change does not set (RULES 5.4): it is kept only where the kind is.
 unfoldable pub kept : ℕ → ℕ → ℕ → ℕ
 kept old kind half = cond (eqb old kind) half missing
 
--- "101 and 100 set the registered bank and index, 99 and 98 the assignable ones. .. Data high becomes missing in each case."
+-- control changes 101 and 99, and 100 and 98: an address half is set, and data high goes
 abbrev pub withAddressBank : ℕ → Record → ℕ → Record
 withAddressBank kind r v = addressed kind v (kept (r .kind) kind (r .«address_index»)) missing r
 
 abbrev pub withAddressIndex : ℕ → Record → ℕ → Record
 withAddressIndex kind r v = addressed kind (kept (r .kind) kind (r .«address_bank»)) v missing r
 
--- "6 sets data high if the address is complete and not null, otherwise nothing."
+-- control change 6: data high, where there is an address that it can belong to (RULES 5.5)
 unfoldable pub withDataHigh : Record → ℕ → Record
 withDataHigh r v =
     cond (complete r && not (null r)) (addressed (r .kind) (r .«address_bank») (r .«address_index») v r) r
 
--- "both halves become missing afterwards, so a bank is spent once"
+-- after a program change no bank is left
 abbrev pub withBankSpent : Record → Record
 withBankSpent r = banked missing missing r
 
--- The empty record is sound, and every method, given a value of at most 127, keeps a sound record sound.
+-- a change that keeps a sound record sound, given a value of at most 127
+abbrev pub KeepsSound : (Record → ℕ → Record) → Type 0
+KeepsSound change = (r : Record) (v : ℕ) → v ≤ 127 → sound r ≡ true → sound (change r v) ≡ true
+
+-- The empty record is sound, and every method keeps a sound record sound.
 pub record StaysSound : Type 0 where
   pub at-start : sound empty ≡ true
-  pub bank-high : (r : Record) (v : ℕ) → v ≤ 127 → sound r ≡ true → sound (withBankHigh r v) ≡ true
-  pub bank-low : (r : Record) (v : ℕ) → v ≤ 127 → sound r ≡ true → sound (withBankLow r v) ≡ true
-  pub registered-bank : (r : Record) (v : ℕ) → v ≤ 127 → sound r ≡ true → sound (withAddressBank registered r v) ≡ true
-  pub registered-index : (r : Record) (v : ℕ) → v ≤ 127 → sound r ≡ true → sound (withAddressIndex registered r v) ≡ true
-  pub assignable-bank : (r : Record) (v : ℕ) → v ≤ 127 → sound r ≡ true → sound (withAddressBank assignable r v) ≡ true
-  pub assignable-index : (r : Record) (v : ℕ) → v ≤ 127 → sound r ≡ true → sound (withAddressIndex assignable r v) ≡ true
-  pub data-high : (r : Record) (v : ℕ) → v ≤ 127 → sound r ≡ true → sound (withDataHigh r v) ≡ true
+  pub bank-high : KeepsSound withBankHigh
+  pub bank-low : KeepsSound withBankLow
+  pub registered-bank : KeepsSound (withAddressBank registered)
+  pub registered-index : KeepsSound (withAddressIndex registered)
+  pub assignable-bank : KeepsSound (withAddressBank assignable)
+  pub assignable-index : KeepsSound (withAddressIndex assignable)
+  pub data-high : KeepsSound withDataHigh
   pub bank-spent : (r : Record) → sound r ≡ true → sound (withBankSpent r) ≡ true

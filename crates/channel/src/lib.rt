@@ -7,6 +7,9 @@
 ghost use mathlib.Core.Path.{_≡_};
 ghost use Rattle.channel.specs.Record.{StaysSound, addressed, assignable, banked, complete, dataHighPresent, empty, fresh, kept, null, number, registered, sound, withAddressBank, withAddressIndex, withBankHigh, withBankLow, withBankSpent, withDataHigh};
 
+// How many records a table has: one for each channel of each group.
+pub const RECORDS: usize = 256;
+
 // Kind: no address.
 pub const NONE: u16 = 0;
 // Kind: the address of a registered controller.
@@ -27,12 +30,12 @@ pub struct Record {
     pub data_high: u8,
 }
 
-// 256 empty records.
-pub fn fresh_table() -> [Record; 256]
+// A whole table of empty records.
+pub fn fresh_table() -> [Record; RECORDS]
     ensures { λ r. ⌜ r ≡ fresh ⌝ }
 {
     let e = Record::empty();
-    [e; 256]
+    [e; RECORDS]
 }
 
 // The laws of soundness hold of the definitions.
@@ -88,7 +91,7 @@ impl Record {
         !(self.data_high == MISSING)
     }
 
-    // Mostly no address stands: that is asked first, and then nothing more of it.
+    // A tree by kind and data high. That the address is null is asked only where its bank is 127.
     pub fn is_sound(self) -> bool
         ensures { λ r. ⌜ r ≡ sound self ⌝ }
     {
@@ -96,20 +99,25 @@ impl Record {
         let bank = self.address_bank;
         let index = self.address_index;
         let data_high = self.data_high;
-        let fine = (kind <= ASSIGNABLE) & (is_number(self.bank_high) & is_number(self.bank_low));
-        if (bank == MISSING) & (index == MISSING) & (data_high == MISSING) {
-            return fine;
+        if is_number(self.bank_high) & is_number(self.bank_low) {
+            if kind == NONE {
+                (bank == MISSING) & ((index == MISSING) & (data_high == MISSING))
+            } else if ASSIGNABLE < kind {
+                false
+            } else if data_high == MISSING {
+                is_number(bank) & is_number(index)
+            } else if data_high <= 127 {
+                if bank == 127 {
+                    (index < 127) | ((index == 127) & (kind == ASSIGNABLE))
+                } else {
+                    (bank <= 127) & (index <= 127)
+                }
+            } else {
+                false
+            }
+        } else {
+            false
         }
-        if kind == NONE {
-            return false;
-        }
-        if data_high == MISSING {
-            return fine & (is_number(bank) & is_number(index));
-        }
-        if (bank <= 127) & (index <= 127) {
-            return fine & ((data_high <= 127) & !self.address_null());
-        }
-        false
     }
 
     fn banked(self, high: u8, low: u8) -> Record

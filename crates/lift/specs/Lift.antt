@@ -1,17 +1,21 @@
--- Going up: a MIDI 1.0 message goes in with the record, and a new record comes out, and a MIDI 2.0 message or none
--- (01 "The channel record"; 004 D.3).
+-- Going up (RULES 6; 01 "The channel record"; 004 D.3): of a record and a MIDI 1.0 message, the record after it and a
+-- MIDI 2.0 message or none.
 use Prim.Native.Nat.{ℕ, _+_, _*_, _%_, _^_}
-use mathlib.Core.Bool.{cond, _&&_, _||_}
+use mathlib.Core.Bool.{Bool, true, false, cond, _&&_, _||_}
 use mathlib.Core.Option.{Option, none, some}
 use lib.Dec.{eqb}
 use Rattle.scale.specs.Scale.{up}
 use Rattle.channel.specs.declared.Record.{Record}
-use Rattle.channel.specs.Record.{assignable, dataHighPresent, present, registered, withAddressBank, withAddressIndex, withBankHigh, withBankLow, withBankSpent, withDataHigh}
+use Rattle.channel.specs.Record.{assignable, dataHighPresent, present, registered, withAddressBank, withAddressIndex}
+use Rattle.channel.specs.Record.{withBankHigh, withBankLow, withBankSpent, withDataHigh}
 use Rattle.lift.specs.declared.Control.{Control}
-use Rattle.lift.specs.declared.Control.the-variants.{BankHigh, BankLow, RegisteredBank, RegisteredIndex, AssignableBank, AssignableIndex, DataHigh, DataLow, Nothing, Plain}
-use Rattle.message.specs.Message.{Bank, Midi1, Midi2, assignable2, bank, channelPressure1, channelPressure2, controlChange1, controlChange2, noBank, noteOff1, noteOff2, noteOn1, noteOn2, pitchBend1, pitchBend2, polyPressure1, polyPressure2, programChange1, programChange2, registered2}
+use Rattle.lift.specs.declared.Control.the-variants.{BankHigh, BankLow, RegisteredBank, RegisteredIndex}
+use Rattle.lift.specs.declared.Control.the-variants.{AssignableBank, AssignableIndex, DataHigh, DataLow, Nothing, Plain}
+use Rattle.message.specs.Message.{Bank, Midi1, Midi2, assignable2, bank, channelPressure1, channelPressure2}
+use Rattle.message.specs.Message.{controlChange1, controlChange2, noBank, noteOff1, noteOff2, noteOn1, noteOn2, pitchBend1}
+use Rattle.message.specs.Message.{pitchBend2, polyPressure1, polyPressure2, programChange1, programChange2, registered2}
 
--- What each control change does. 33 to 63 except 38, and 121, "are sent as plain controllers".
+-- what each control change does (RULES 6.3); all that are not named here are plain
 unfoldable pub controlOf : ℕ → Control
 controlOf i =
     cond (eqb i 0) BankHigh
@@ -28,46 +32,79 @@ pub record Lifted : Type 0 where
   pub after : Record
   pub sends : Option Midi2
 
--- "the call answers 1"
-abbrev pub taken : Record → Lifted
-taken r = record { after = r; sends = none }
+-- the message is taken in, and nothing is sent
+abbrev pub quiet : Record → Lifted
+quiet r = record { after = r; sends = none }
 
-abbrev pub sent : Record → Midi2 → Lifted
-sent r m = record { after = r; sends = some m }
+abbrev pub speaks : Record → Midi2 → Lifted
+speaks r m = record { after = r; sends = some m }
 
 -- the message to the record's address
 unfoldable pub addressed2 : Record → ℕ → Midi2
 addressed2 r v =
-    cond (eqb (r .kind) registered) (registered2 (r .«address_bank») (r .«address_index») v) (assignable2 (r .«address_bank») (r .«address_index») v)
+    cond (eqb (r .kind) registered) (registered2 (r .«address_bank») (r .«address_index») v)
+    (assignable2 (r .«address_bank») (r .«address_index») v)
 
--- "38 with data high present sends one message: MT 4 status 2 or 3, with the 14-bit value data high times 128 plus this byte,
--- scaled to 32 bits. The record stays. Without data high: nothing."
+-- Control change 38 (RULES 6.4): beside data high it completes a 14-bit value, which goes to the record's address; the record
+-- is not changed. Without data high it does nothing.
 unfoldable pub dataLow : Record → ℕ → Lifted
-dataLow r v = cond (dataHighPresent r) (sent r (addressed2 r (up 14 32 ((r .«data_high» * 128 + v) % 2 ^ 14)))) (taken r)
+dataLow r v =
+    cond (dataHighPresent r) (speaks r (addressed2 r (up 14 32 ((r .«data_high» * 2 ^ 7 + v) % 2 ^ 14)))) (quiet r)
+
+-- a controller that is sent as itself
+abbrev pub plain : Record → ℕ → ℕ → Lifted
+plain r i v = speaks r (controlChange2 i (up 7 32 v))
 
 unfoldable pub controlled : Control → Record → ℕ → ℕ → Lifted
-controlled BankHigh r i v = taken (withBankHigh r v)
-controlled BankLow r i v = taken (withBankLow r v)
-controlled RegisteredBank r i v = taken (withAddressBank registered r v)
-controlled RegisteredIndex r i v = taken (withAddressIndex registered r v)
-controlled AssignableBank r i v = taken (withAddressBank assignable r v)
-controlled AssignableIndex r i v = taken (withAddressIndex assignable r v)
-controlled DataHigh r i v = taken (withDataHigh r v)
+controlled BankHigh r i v = quiet (withBankHigh r v)
+controlled BankLow r i v = quiet (withBankLow r v)
+controlled RegisteredBank r i v = quiet (withAddressBank registered r v)
+controlled RegisteredIndex r i v = quiet (withAddressIndex registered r v)
+controlled AssignableBank r i v = quiet (withAddressBank assignable r v)
+controlled AssignableIndex r i v = quiet (withAddressIndex assignable r v)
+controlled DataHigh r i v = quiet (withDataHigh r v)
 controlled DataLow r i v = dataLow r v
-controlled Nothing r i v = taken r
-controlled Plain r i v = sent r (controlChange2 i (up 7 32 v))
+controlled Nothing r i v = quiet r
+controlled Plain r i v = plain r i v
 
--- "bank flag set and both halves sent if both are present, otherwise flag and bank bytes zero"
+-- the bank that goes with a program: both halves, or none (RULES 6.5)
 unfoldable pub banked2 : Record → Bank
-banked2 r = cond (present (r .«bank_high») && present (r .«bank_low»)) (bank (r .«bank_high») (r .«bank_low»)) noBank
+banked2 r =
+    cond (present (r .«bank_high») && present (r .«bank_low»)) (bank (r .«bank_high») (r .«bank_low»)) noBank
 
--- "Notes: velocity scaled 7 to 16 bits. Note On with velocity 0 becomes Note Off with velocity 0x0000. Poly and channel pressure
--- scale 7 to 32, pitch bend 14 to 32." After a program change "both halves become missing".
+-- Notes (RULES 6.1), pressure and bend (6.2), control changes (6.3), program changes (6.5). A Note On without velocity is a
+-- Note Off.
 unfoldable pub lift : Record → Midi1 → Lifted
-lift r (noteOff1 n v) = sent r (noteOff2 n (up 7 16 v))
-lift r (noteOn1 n v) = sent r (cond (eqb v 0) (noteOff2 n 0) (noteOn2 n (up 7 16 v)))
-lift r (polyPressure1 n v) = sent r (polyPressure2 n (up 7 32 v))
+lift r (noteOff1 n v) = speaks r (noteOff2 n (up 7 16 v))
+lift r (noteOn1 n v) = speaks r (cond (eqb v 0) (noteOff2 n 0) (noteOn2 n (up 7 16 v)))
+lift r (polyPressure1 n v) = speaks r (polyPressure2 n (up 7 32 v))
 lift r (controlChange1 i v) = controlled (controlOf i) r i v
-lift r (programChange1 p) = sent (withBankSpent r) (programChange2 p (banked2 r))
-lift r (channelPressure1 v) = sent r (channelPressure2 (up 7 32 v))
-lift r (pitchBend1 v) = sent r (pitchBend2 (up 14 32 v))
+lift r (programChange1 p) = speaks (withBankSpent r) (programChange2 p (banked2 r))
+lift r (channelPressure1 v) = speaks r (channelPressure2 (up 7 32 v))
+lift r (pitchBend1 v) = speaks r (pitchBend2 (up 14 32 v))
+
+-- whether a control change, and whether a message, may change the record at all
+unfoldable pub changing : Control → Bool
+changing BankHigh = true
+changing BankLow = true
+changing RegisteredBank = true
+changing RegisteredIndex = true
+changing AssignableBank = true
+changing AssignableIndex = true
+changing DataHigh = true
+changing DataLow = false
+changing Nothing = false
+changing Plain = false
+
+unfoldable pub changes : Midi1 → Bool
+changes (noteOff1 n v) = false
+changes (noteOn1 n v) = false
+changes (polyPressure1 n v) = false
+changes (controlChange1 i v) = changing (controlOf i)
+changes (programChange1 p) = true
+changes (channelPressure1 v) = false
+changes (pitchBend1 v) = false
+
+-- the status that a note is sent with
+unfoldable pub shownStatus : ℕ → ℕ → ℕ
+shownStatus s v = cond (eqb s 9 && eqb v 0) 8 s

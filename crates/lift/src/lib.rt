@@ -1,5 +1,5 @@
-// Going up: a MIDI 1.0 channel voice message goes in with its channel's record, and a new record
-// comes out, and a MIDI 2.0 message or none.
+// Going up: a MIDI 1.0 channel voice message goes in with its channel's record, and out come the
+// record after it and a MIDI 2.0 message or none.
 //
 // `lifted` is total. What it says of a record that is not sound no call sends: soundness is asked
 // first, one crate above.
@@ -7,21 +7,28 @@ use channel::MISSING;
 use channel::REGISTERED;
 use channel::Record;
 use message::voice_word;
+use ump::MIDI2_VOICE;
+use ump::data1;
+use ump::data2;
+use ump::status;
 ghost use mathlib.Core.Path.{_≡_};
-ghost use Prim.Native.Nat.{_+_, _*_, _%_, _^_, _≤_};
+ghost use Prim.Native.Nat.{_+_, _*_, _%_, _^_};
 ghost use Rattle.scale.specs.Scale.{up};
-ghost use Rattle.ump.specs.Word.{channelOf, data1, data2, groupOf};
-ghost use Rattle.message.specs.Message.{noteOn1, programChange1, read1, voiceWord};
-ghost use Rattle.lift.specs.Lift.{controlOf, dataLow, lift};
+ghost use Rattle.ump.specs.Word.{channelOf, groupOf, voice2};
+ghost use Rattle.ump.specs.Word;
+ghost use Rattle.message.specs.Message.{programChange1, read1, voiceWord};
+ghost use Rattle.lift.specs.Lift.{controlOf, dataLow, lift, shownStatus};
 ghost use Rattle.lift.specs.Lift;
-ghost use Rattle.lift.specs.Values.{silent, speaking, voicedBy};
+ghost use Rattle.lift.specs.Values.{controlIn, messageIn, noteIn, saying, silent};
 
-// The record after, and the two words of a MIDI 2.0 message or none.
-pub struct Voiced {
+// What a message becomes: the record after it, whether the record may have changed, and the two
+// words of a MIDI 2.0 message or none.
+pub struct UpwardMessage {
     pub after: Record,
+    pub changes: bool,
     pub sends: bool,
-    pub a: u32,
-    pub b: u32,
+    pub first: u32,
+    pub second: u32,
 }
 
 // What a control change does.
@@ -38,160 +45,187 @@ pub enum Control {
     Plain,
 }
 
-fn taken_in(after: Record) -> Voiced
-    ensures { λ r. ⌜ r ≡ silent after ⌝ }
+// Nothing is sent.
+fn taken_in(after: Record, changes: bool) -> UpwardMessage
+    ensures { λ r. ⌜ r ≡ silent after changes ⌝ }
 {
-    Voiced {
+    UpwardMessage {
         after,
+        changes,
         sends: false,
-        a: 0,
-        b: 0,
+        first: 0,
+        second: 0,
     }
 }
 
 // A message of a status and two bytes in the group and channel of w, with its second word.
-fn sent_up(after: Record, status: u32, a: u8, b: u8, w: u32, second: u32) -> Voiced
-    ensures { λ r. ⌜ r ≡ speaking after (voiceWord 4 (groupOf w) (status % 2 ^ 4) (channelOf w) a b) second ⌝ }
+fn sent_up(
+    after: Record,
+    changes: bool,
+    status: u32,
+    a: u8,
+    b: u8,
+    w: u32,
+    second: u32,
+) -> UpwardMessage
+    ensures { λ r. ⌜ r ≡ saying after changes (voiceWord voice2 (groupOf w) (status % 2 ^ 4) (channelOf w) a b) second ⌝ }
 {
-    Voiced {
+    UpwardMessage {
         after,
+        changes,
         sends: true,
-        a: voice_word(4, status, a, b, w),
-        b: second,
+        first: voice_word(MIDI2_VOICE, status, a, b, w),
+        second,
     }
 }
 
-fn control_of(i: u32) -> Control
+fn control_of(i: u8) -> Control
     ensures { λ r. ⌜ r ≡ controlOf i ⌝ }
 {
-    if i == 0 {
-        return Control::BankHigh;
+    match i {
+        0 => Control::BankHigh,
+        32 => Control::BankLow,
+        101 => Control::RegisteredBank,
+        100 => Control::RegisteredIndex,
+        99 => Control::AssignableBank,
+        98 => Control::AssignableIndex,
+        6 => Control::DataHigh,
+        38 => Control::DataLow,
+        96 | 97 => Control::Nothing,
+        _ => Control::Plain,
     }
-    if i == 32 {
-        return Control::BankLow;
-    }
-    if i == 101 {
-        return Control::RegisteredBank;
-    }
-    if i == 100 {
-        return Control::RegisteredIndex;
-    }
-    if i == 99 {
-        return Control::AssignableBank;
-    }
-    if i == 98 {
-        return Control::AssignableIndex;
-    }
-    if i == 6 {
-        return Control::DataHigh;
-    }
-    if i == 38 {
-        return Control::DataLow;
-    }
-    if (i == 96) | (i == 97) {
-        return Control::Nothing;
-    }
-    Control::Plain
 }
 
 // The velocity of a note, in its place in the second word.
 fn velocity(w: u32) -> u32
-    ensures { λ r. ⌜ r ≡ up 7 16 (data2 w) * 2 ^ 16 ⌝ }
+    ensures { λ r. ⌜ r ≡ up 7 16 (Word.data2 w) * 2 ^ 16 ⌝ }
 {
-    scale::up_7_to_16(w) * 65536
+    scale::up_7_to_16(data2(w) as u32) * 0x1_0000
+}
+
+// A value of seven bits, scaled.
+fn seven(value: u8) -> u32
+    ensures { λ r. ⌜ r ≡ up 7 32 (value % 2 ^ 7) ⌝ }
+{
+    scale::up_7_to_32(value as u32)
 }
 
 // The 14-bit value of two halves, scaled.
-fn fourteen(high: u8, low: u32) -> u32
-    requires { ⌜ low ≤ 127 ⌝ }
-    ensures { λ r. ⌜ r ≡ up 14 32 ((high * 128 + low) % 2 ^ 14) ⌝ }
+fn fourteen(high: u8, low: u8) -> u32
+    ensures { λ r. ⌜ r ≡ up 14 32 ((high * 2 ^ 7 + low) % 2 ^ 14) ⌝ }
 {
-    scale::up_14_to_32((high as u32) * 128 + low)
+    scale::up_14_to_32((high as u32) * 0x80 + low as u32)
 }
 
 // Control change 38: sends where data high is present, and the record stays.
-fn data_low(record: Record, w: u32) -> Voiced
-    ensures { λ r. ⌜ r ≡ voicedBy w (dataLow «record» (data2 w)) ⌝ }
+fn data_low(record: Record, w: u32) -> UpwardMessage
+    ensures { λ r. ⌜ r ≡ controlIn w false (dataLow «record» (Word.data2 w)) ⌝ }
 {
     if record.data_high_present() {
         let bank = record.address_bank;
         let index = record.address_index;
-        let value = fourteen(record.data_high, w % 128);
+        let value = fourteen(record.data_high, data2(w));
         if record.kind == REGISTERED {
-            sent_up(record, 2, bank, index, w, value)
+            sent_up(record, false, 2, bank, index, w, value)
         } else {
-            sent_up(record, 3, bank, index, w, value)
+            sent_up(record, false, 3, bank, index, w, value)
         }
     } else {
-        taken_in(record)
+        taken_in(record, false)
     }
 }
 
-fn controlled(control: Control, record: Record, w: u32) -> Voiced
-    ensures { λ r. ⌜ r ≡ voicedBy w (Lift.controlled control «record» (data1 w) (data2 w)) ⌝ }
+fn plain(record: Record, w: u32) -> UpwardMessage
+    ensures { λ r. ⌜ r ≡ controlIn w false (Lift.plain «record» (Word.data1 w) (Word.data2 w)) ⌝ }
 {
-    let v = (w % 128) as u8;
+    sent_up(record, false, 11, data1(w), 0, w, seven(data2(w)))
+}
+
+fn controlled(control: Control, record: Record, w: u32) -> UpwardMessage
+    ensures { λ r. ⌜ r ≡ controlIn w (Lift.changing control) (Lift.controlled control «record» (Word.data1 w) (Word.data2 w)) ⌝ }
+{
+    let v = data2(w);
     match control {
-        Control::BankHigh => taken_in(record.with_bank_high(v)),
-        Control::BankLow => taken_in(record.with_bank_low(v)),
-        Control::RegisteredBank => taken_in(record.with_registered_bank(v)),
-        Control::RegisteredIndex => taken_in(record.with_registered_index(v)),
-        Control::AssignableBank => taken_in(record.with_assignable_bank(v)),
-        Control::AssignableIndex => taken_in(record.with_assignable_index(v)),
-        Control::DataHigh => taken_in(record.with_data_high(v)),
+        Control::BankHigh => taken_in(record.with_bank_high(v), true),
+        Control::BankLow => taken_in(record.with_bank_low(v), true),
+        Control::RegisteredBank => taken_in(record.with_registered_bank(v), true),
+        Control::RegisteredIndex => taken_in(record.with_registered_index(v), true),
+        Control::AssignableBank => taken_in(record.with_assignable_bank(v), true),
+        Control::AssignableIndex => taken_in(record.with_assignable_index(v), true),
+        Control::DataHigh => taken_in(record.with_data_high(v), true),
         Control::DataLow => data_low(record, w),
-        Control::Nothing => taken_in(record),
-        Control::Plain => {
-            let index = (w / 256 % 128) as u8;
-            sent_up(record, 11, index, 0, w, scale::up_7_to_32(w))
-        }
+        Control::Nothing => taken_in(record, false),
+        Control::Plain => plain(record, w),
+    }
+}
+
+// One test parts the controllers that are sent as themselves from those that are not.
+fn control(record: Record, w: u32) -> UpwardMessage
+    ensures { λ r. ⌜ r ≡ controlIn w (Lift.changing (controlOf (Word.data1 w))) (Lift.controlled (controlOf (Word.data1 w)) «record» (Word.data1 w) (Word.data2 w)) ⌝ }
+{
+    let i = data1(w);
+    if message::is_part(i) {
+        controlled(control_of(i), record, w)
+    } else {
+        plain(record, w)
     }
 }
 
 // The bank goes with the program where both halves are present, and is spent either way.
-fn program(record: Record, w: u32) -> Voiced
-    ensures { λ r. ⌜ r ≡ voicedBy w (lift «record» (programChange1 (data1 w))) ⌝ }
+fn program(record: Record, w: u32) -> UpwardMessage
+    ensures { λ r. ⌜ r ≡ messageIn w «record» (programChange1 (Word.data1 w)) ⌝ }
 {
     let high = record.bank_high;
     let low = record.bank_low;
     let after = record.with_bank_spent();
-    let number = w / 256 % 128 * 16777216;
+    let number = (data1(w) as u32) * 0x100_0000;
     if !(high == MISSING) & !(low == MISSING) {
-        let second = number + (high as u32) * 256 + low as u32;
-        sent_up(after, 12, 0, 1, w, second)
+        let second = number + (high as u32) * 0x100 + low as u32;
+        sent_up(after, true, 12, 0, 1, w, second)
     } else {
-        sent_up(after, 12, 0, 0, w, number)
+        sent_up(after, true, 12, 0, 0, w, number)
     }
 }
 
-// A silent Note On is a Note Off with velocity 0.
-fn note_on(record: Record, w: u32) -> Voiced
-    ensures { λ r. ⌜ r ≡ voicedBy w (lift «record» (noteOn1 (data1 w) (data2 w))) ⌝ }
+// A silent Note On is a Note Off.
+fn shown(status: u32, velocity: u8) -> u32
+    ensures { λ r. ⌜ r ≡ shownStatus status velocity ⌝ }
 {
-    let note = (w / 256 % 128) as u8;
-    if w % 128 == 0 {
-        sent_up(record, 8, note, 0, w, 0)
+    if (status == 9) & (velocity == 0) {
+        8
     } else {
-        sent_up(record, 9, note, 0, w, velocity(w))
+        status
     }
 }
 
-// The message of a checked MT 2 packet, by its word, with its record.
-pub fn lifted(record: Record, w: u32) -> Voiced
-    ensures { λ r. ⌜ r ≡ voicedBy w (lift «record» (read1 w)) ⌝ }
+// Note Off and Note On, by one row: most messages are of these two.
+fn note(record: Record, w: u32, status: u32) -> UpwardMessage
+    ensures { λ r. ⌜ r ≡ noteIn w «record» status ⌝ }
 {
-    let status = w / 1048576 % 16;
-    let note = (w / 256 % 128) as u8;
-    match status {
-        8 => sent_up(record, 8, note, 0, w, velocity(w)),
-        9 => note_on(record, w),
-        10 => sent_up(record, 10, note, 0, w, scale::up_7_to_32(w)),
-        11 => controlled(control_of(w / 256 % 128), record, w),
+    sent_up(
+        record,
+        false,
+        shown(status, data2(w)),
+        data1(w),
+        0,
+        w,
+        velocity(w),
+    )
+}
+
+// The message of a checked MIDI 1.0 voice packet, by its word, with its record.
+pub fn lifted(record: Record, w: u32) -> UpwardMessage
+    ensures { λ r. ⌜ r ≡ messageIn w «record» (read1 w) ⌝ }
+{
+    let s = status(w);
+    if (s == 8) | (s == 9) {
+        return note(record, w, s);
+    }
+    match s {
+        10 => sent_up(record, false, 10, data1(w), 0, w, seven(data2(w))),
+        11 => control(record, w),
         12 => program(record, w),
-        13 => sent_up(record, 13, 0, 0, w, scale::up_7_to_32(w / 256)),
-        _ => {
-            let low = w / 256 % 128;
-            sent_up(record, 14, 0, 0, w, fourteen((w % 128) as u8, low))
-        }
+        13 => sent_up(record, false, 13, 0, 0, w, seven(data1(w))),
+        _ => sent_up(record, false, 14, 0, 0, w, fourteen(data2(w), data1(w))),
     }
 }

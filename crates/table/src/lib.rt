@@ -1,116 +1,110 @@
 // The packets of a stream, one after another, going up over the table that the caller lends: one
-// record is read and one is stored for each packet, and the table is never copied.
+// record is read for each packet, and stored again only where it may have changed. The table is
+// never copied.
 //
-// `treat` has no `requires`, and says turn by turn what it reports, what table it leaves and what the
-// output holds after, on every input.
+// `treat` has no `requires`, and promises the call or the run itself, on every input.
+use channel::RECORDS;
 use channel::Record;
+use stream::Done;
+use stream::NO_TABLE;
+use stream::SENT;
+use stream::report;
 ghost use mathlib.Core.Path.{_≡_};
-ghost use Rattle.table.specs.Loop.{oneO, oneP, oneT, outOf, placeAt, refusedOf, startOf, steppedOf, treated};
+ghost use mathlib.Core.Bool.{cond};
 
-// How far a call or a run is: the answer to the last packet, the words read and written so far, and
-// whether another packet is to be treated.
+// What the loop is told: whether it is to make one call only.
+pub struct Job {
+    pub once: bool,
+}
+
+// How far a call or a run is: the report so far, and whether another packet is to be treated.
 pub struct Progress {
-    pub answer: u32,
-    pub read: usize,
-    pub written: usize,
+    pub done: Done,
     pub more: bool,
 }
 
-pub struct Stepped {
+// The record after a packet, whether it may have changed, and how far the run is then.
+pub struct RecordAndProgress {
     pub after: Record,
+    pub changes: bool,
     pub progress: Progress,
 }
 
-fn start(n: usize, end: usize) -> Progress
-    ensures { λ r. ⌜ r ≡ startOf n end ⌝ }
+pub fn one_call() -> Job
 {
-    if n == 256 {
+    Job { once: true }
+}
+
+pub fn whole_run() -> Job
+{
+    Job { once: false }
+}
+
+fn start(n: usize, words: usize, job: Job) -> Progress
+{
+    if n == RECORDS {
         return Progress {
-            answer: 0,
-            read: 0,
-            written: 0,
-            more: 0 < end,
+            done: report(SENT, 0, 0),
+            more: job.once | (0 < words),
         };
     }
     Progress {
-        answer: 10,
-        read: 0,
-        written: 0,
+        done: report(NO_TABLE, 0, 0),
         more: false,
     }
 }
 
-// Where the next packet's record stands in a table of n, and n where it is refused.
-fn place_of(n: usize, words: &[u32], p: Progress) -> usize
-    ensures { λ r. ⌜ r ≡ placeAt n (now (words .entry)) p ⌝ }
+// Where the next packet's record stands.
+fn place_of(words: &[u32], p: Progress) -> usize
 {
-    if n == 256 {
-        let w = ump::word_at(words, p.read);
-        return ump::record_number(ump::group_of(w), ump::channel_of(w));
-    }
-    n
+    let done = p.done;
+    let w = ump::word_at(words, done.read);
+    ump::record_number(ump::group_of(w), ump::channel_of(w))
+}
+
+fn answer_of(last: bool, answer: u32) -> u32
+{
+    if last { answer } else { SENT }
 }
 
 // One packet, with its record.
-fn step(words: &[u32], end: usize, p: Progress, record: Record, out: &mut [u32]) -> Stepped
-    ensures { λ r. ⌜ (r ≡ steppedOf (now (words .entry)) end p «record» (now (out .entry)))
-        × (now (out .exit) ≡ outOf (now (words .entry)) p «record» (now (out .entry))) ⌝ }
+fn step(words: &[u32], job: Job, p: Progress, record: Record, out: &mut [u32]) -> RecordAndProgress
 {
-    let at = p.read;
-    let to = p.written;
-    let upped = voice::up(words, at, record, out, to);
-    let after = upped.after;
-    let done = upped.done;
-    let read = at + done.read;
-    let written = to + done.written;
-    let more = !(done.read == 0) & (read < end);
-    Stepped {
+    let so_far = p.done;
+    let turned = voice::up(words, so_far, record, out);
+    let after = turned.after;
+    let done = turned.done;
+    let last = job.once | (done.read == so_far.read);
+    let answer = answer_of(last, done.answer);
+    RecordAndProgress {
         after,
+        changes: turned.changes,
         progress: Progress {
-            answer: done.answer,
-            read,
-            written,
-            more,
+            done: report(answer, done.read, done.written),
+            more: !last & (done.read < words.len()),
         },
     }
 }
 
-fn refused(p: Progress) -> Progress
-    ensures { λ r. ⌜ r ≡ refusedOf p ⌝ }
+// One call with the table, which is a whole one.
+fn one(words: &[u32], job: Job, p: Progress, table: &mut [Record], out: &mut [u32]) -> Progress
 {
-    Progress {
-        answer: 10,
-        read: p.read,
-        written: p.written,
-        more: false,
-    }
-}
-
-// One packet, with the table: one record is read, and one is stored.
-fn one(words: &[u32], end: usize, p: Progress, table: &mut [Record], out: &mut [u32]) -> Progress
-    ensures { λ r. ⌜ (r ≡ oneP (now (words .entry)) end p (now (table .entry)) (now (out .entry)))
-        × (now (table .exit) ≡ oneT (now (words .entry)) end p (now (table .entry)) (now (out .entry)))
-        × (now (out .exit) ≡ oneO (now (words .entry)) end p (now (table .entry)) (now (out .entry))) ⌝ }
-{
-    let i = place_of(table.len(), words, p);
-    if i < table.len() {
-        let s = step(words, end, p, table[i], out);
+    let i = place_of(words, p);
+    let s = step(words, job, p, table[i], out);
+    if s.changes {
         table[i] = s.after;
         s.progress
     } else {
-        refused(p)
+        s.progress
     }
 }
 
-// The packets from the start of the words to the place `end`.
-pub fn treat(words: &[u32], end: usize, table: &mut [Record], out: &mut [u32]) -> Progress
-    ensures { λ r. ⌜ (r ≡ treated (now (words .entry)) end (now (table .entry)) (now (out .entry)) .p)
-        × (now (table .exit) ≡ treated (now (words .entry)) end (now (table .entry)) (now (out .entry)) .tb)
-        × (now (out .exit) ≡ treated (now (words .entry)) end (now (table .entry)) (now (out .entry)) .out) ⌝ }
+// The call at the start of the words, or the run over all of them.
+pub fn treat(words: &[u32], job: Job, table: &mut [Record], out: &mut [u32]) -> Done
 {
-    let mut p = start(table.len(), end);
+    let mut p = start(table.len(), words.len(), job);
     while p.more {
-        p = one(words, end, p, table, out);
+        p = one(words, job, p, table, out);
     }
-    p
+    p.done
 }

@@ -7,15 +7,15 @@ use lib.ListN.{length, getD, take}
 use lib.Dec.{leb}
 use Rattle.ump.specs.Word.{messageType}
 
--- "Packet sizes, in 32-bit words", by message type 0 to F
+-- how many words a packet has, by message type 0 to F (RULES 1.2; 01 "Packet sizes, in 32-bit words")
 abbrev pub sizes : List ℕ
 sizes = 1 ∷ 1 ∷ 1 ∷ 2 ∷ 2 ∷ 4 ∷ 1 ∷ 1 ∷ 2 ∷ 2 ∷ 2 ∷ 3 ∷ 3 ∷ 4 ∷ 4 ∷ 4 ∷ []
 
 unfoldable pub size : ℕ → ℕ
 size w = getD sizes (messageType w) 0
 
--- "What it hands back for one packet is that packet's own words, a part of the caller's stream. With no whole packet left
--- it hands back an empty part" (01 "What the box translates"): of the words left, the packet that stands first.
+-- Of the words left, the packet that stands first, and no words where it is cut or none is left (RULES 1.3;
+-- 01 "What the box translates").
 unfoldable pub packet : List ℕ → List ℕ
 packet [] = []
 packet (w ∷ s) = cond (leb (size w) (length (w ∷ s))) (take (size w) (w ∷ s)) []
@@ -34,3 +34,10 @@ cut s = cutAfter 0 s
 unfoldable pub Whole : List ℕ → Type 0
 Whole [] = ⊥
 Whole (w ∷ s) = length (w ∷ s) ≡ size w
+
+-- the first word of a packet, and its second, each 0 where there is none
+abbrev pub first : List ℕ → ℕ
+first p = getD p 0 0
+
+abbrev pub second : List ℕ → ℕ
+second p = getD p 1 0

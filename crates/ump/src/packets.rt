@@ -1,4 +1,5 @@
 // Packets in a stream of words.
+use crate::word::message_type;
 ghost use mathlib.Core.Path.{_≡_};
 ghost use Prim.Native.Nat.{_+_};
 ghost use lib.ListN.{drop, getD, length};
@@ -12,7 +13,7 @@ const SIZES: u32 = 0xFE950D40;
 pub fn size(w: u32) -> usize
     ensures { λ r. ⌜ r ≡ Packet.size w ⌝ }
 {
-    let t = w / 268435456 % 16;
+    let t = message_type(w);
     ((SIZES >> (t * 2)) % 4 + 1) as usize
 }
 

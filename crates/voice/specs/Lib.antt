@@ -1,3 +1,3 @@
-pub mod Call
 pub mod Packet
 pub mod Output
+pub mod Turn

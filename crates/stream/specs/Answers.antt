@@ -1,0 +1,41 @@
+-- The answers of a call by their numbers (RULES 3.1; 01 "What each call answers"), each in one place.
+use Prim.Native.Nat.{ℕ}
+use mathlib.Core.Bool.{Bool, _||_}
+use lib.Dec.{eqb}
+
+abbrev pub sent : ℕ
+sent = 0
+
+abbrev pub takenIn : ℕ
+takenIn = 1
+
+abbrev pub noForm : ℕ
+noForm = 2
+
+abbrev pub cutPacket : ℕ
+cutPacket = 3
+
+abbrev pub reservedType : ℕ
+reservedType = 4
+
+abbrev pub wrongProtocol : ℕ
+wrongProtocol = 5
+
+abbrev pub badStatus : ℕ
+badStatus = 6
+
+abbrev pub badData : ℕ
+badData = 7
+
+abbrev pub notSound : ℕ
+notSound = 8
+
+abbrev pub noRoom : ℕ
+noRoom = 9
+
+abbrev pub noTable : ℕ
+noTable = 10
+
+-- the four that stop a run: nothing was read (RULES 4)
+abbrev pub stopsRun : ℕ → Bool
+stopsRun a = eqb a cutPacket || eqb a notSound || eqb a noRoom || eqb a noTable

@@ -1,0 +1,5 @@
+pub mod Answers
+pub mod Call
+pub mod Run
+pub mod Report
+pub mod Claims

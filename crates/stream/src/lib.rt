@@ -1,0 +1,57 @@
+// A stream of packets: what a call answers, what it reports, and a run, which is one call for each
+// packet until one stops it.
+//
+// The answers have their numbers here and nowhere else. What a run is stands in specs/Run.antt, over
+// any step and any state, with its laws beside it in proofs/.
+ghost use mathlib.Core.Path.{_≡_};
+ghost use Rattle.stream.specs.Report.{counting};
+
+// Sent; of a run: finished.
+pub const SENT: u32 = 0;
+
+// Taken in, with nothing to send.
+pub const TAKEN_IN: u32 = 1;
+
+// Going down: no MIDI 1.0 form.
+pub const NO_FORM: u32 = 2;
+
+// A cut packet, or no words left.
+pub const CUT: u32 = 3;
+
+// A reserved message type.
+pub const RESERVED: u32 = 4;
+
+// Voice messages of the other protocol.
+pub const WRONG_PROTOCOL: u32 = 5;
+
+pub const BAD_STATUS: u32 = 6;
+
+pub const BAD_DATA: u32 = 7;
+
+// Going up: the packet's own record is not sound.
+pub const NOT_SOUND: u32 = 8;
+
+// The output is too short for what the packet sends.
+pub const NO_ROOM: u32 = 9;
+
+// Going up: the table is not a whole one.
+pub const NO_TABLE: u32 = 10;
+
+// What a call or a run reports.
+#[repr(C)]
+pub struct Done {
+    pub answer: u32,
+    pub read: usize,
+    pub written: usize,
+}
+
+// An answer, with the words read and written.
+pub fn report(answer: u32, read: usize, written: usize) -> Done
+    ensures { λ r. ⌜ r ≡ counting answer read written ⌝ }
+{
+    Done {
+        answer,
+        read,
+        written,
+    }
+}

@@ -1,0 +1,48 @@
+-- Calls and runs over the table that the caller lends (RULES 3 and 4).
+use Prim.Native.Nat.{ℕ}
+use mathlib.Core.Path.{_≡_}
+use mathlib.Core.Bool.{Bool, true, cond}
+use mathlib.Core.List.{List, []}
+use lib.ListN.{getD, length, set}
+use lib.Dec.{eqb}
+use Rattle.ump.specs.Word.{placeOf}
+use Rattle.ump.specs.Packet.{cut, first, packet}
+use Rattle.stream.specs.Answers.{noTable}
+use Rattle.stream.specs.Call.{Call, stopped, went, within}
+use Rattle.stream.specs.Run.{Ran, called, run}
+use Rattle.channel.specs.declared.Record.{Record}
+use Rattle.channel.specs.Record.{empty, sound, wholeTable}
+use Rattle.voice.specs.Packet.{callUp}
+
+-- one place of the table is replaced
+abbrev pub stored : List Record → ℕ → Call Record → Call (List Record)
+stored t k (went a ws r) = went a ws (set t k r)
+stored t k (stopped a) = stopped a
+
+-- One call up: with a table that is not whole it stops, and else it is the call with the packet's own record.
+unfoldable pub tableUp : List Record → List ℕ → Call (List Record)
+tableUp t s =
+    cond (eqb (length t) wholeTable)
+    (stored t (placeOf (first s)) (callUp (getD t (placeOf (first s)) empty) s))
+    (stopped noTable)
+
+-- A run up by any step, in an output of so many words: the table is asked once more than there are packets.
+abbrev pub runBy : (List Record → List ℕ → Call (List Record)) → ℕ → List Record → List ℕ → Ran (ℕ × List Record)
+runBy step room t s =
+    cond (eqb (length t) wholeTable) (run (within step) (room, t) (cut s))
+    (record { answer = noTable; read = 0; sends = []; left = (room, t) })
+
+unfoldable pub runUp : ℕ → List Record → List ℕ → Ran (ℕ × List Record)
+runUp room t s = runBy tableUp room t s
+
+-- one call up, told as a run is
+unfoldable pub oneUp : ℕ → List Record → List ℕ → Ran (ℕ × List Record)
+oneUp room t s = called (packet s) (room, t) (within tableUp (room, t) s)
+
+-- the table after a call or a run
+abbrev pub tableAfter : Ran (ℕ × List Record) → List Record
+tableAfter r = r .left .1
+
+-- every record of a table is sound
+abbrev pub SoundTable : List Record → Type 0
+SoundTable t = (i : ℕ) → sound (getD t i empty) ≡ true

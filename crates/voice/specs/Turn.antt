@@ -1,0 +1,47 @@
+-- A call in the middle of a stream: after what was read and written so far, into an output that may already hold words.
+use Prim.Native.Nat.{ℕ, _-_}
+use mathlib.Core.Bool.{Bool, cond, _&&_}
+use mathlib.Core.List.{List, [], _∷_}
+use lib.ListN.{drop, length}
+use lib.Dec.{leb}
+use Rattle.ground.specs.Store.{written}
+use Rattle.ump.specs.Packet.{packet}
+use Rattle.stream.specs.declared.Done.{Done}
+use Rattle.stream.specs.Answers.{sent, takenIn}
+use Rattle.stream.specs.Call.{Call, answerOf, fit, leftOf, sentOf, went}
+use Rattle.stream.specs.Report.{further}
+use Rattle.channel.specs.declared.Record.{Record}
+use Rattle.lift.specs.declared.UpwardMessage.{UpwardMessage}
+use Rattle.voice.specs.declared.RecordAndReport.{RecordAndReport}
+
+-- the packet that is next
+abbrev pub next : List ℕ → Done → List ℕ
+next ws d = packet (drop (d .read) ws)
+
+-- a call with the room that the output has after what was written so far
+abbrev pub inRoom : {T : Type 0} → Done → List ℕ → Call T → Call (ℕ × T)
+inRoom d out c = fit (length out - d .written) c
+
+-- what is reported of the call c at the packet p, and what the output then holds
+abbrev pub reportOf : {T : Type 0} → Done → List ℕ → List ℕ → Call T → Done
+reportOf d p out c = further d p (inRoom d out c)
+
+abbrev pub outputOf : {T : Type 0} → Done → List ℕ → Call T → List ℕ
+outputOf d out c = written (d .written) (sentOf (inRoom d out c)) out
+
+-- the record may have changed only if the packet was sent or taken in
+abbrev pub changedBy : {T : Type 0} → Bool → Call T → Bool
+changedBy may c = leb (answerOf c) takenIn && may
+
+-- going up: the record after, whether it may have changed, and the report
+abbrev pub turned : Done → List ℕ → List ℕ → Record → Bool → Call Record → RecordAndReport
+turned d p out r may c =
+    record {
+      after = leftOf (length out - d .written, r) (inRoom d out c) .1;
+      changes = changedBy may (inRoom d out c);
+      done = reportOf d p out c;
+    }
+
+-- the call that a lifted message makes
+abbrev pub spoken : UpwardMessage → Call Record
+spoken m = cond (m .sends) (went sent (m .first ∷ m .second ∷ []) (m .after)) (went takenIn [] (m .after))
