@@ -7,7 +7,7 @@ use native.Mathlib.Omega.{arith}
 use borrow.Author.Tests.{eq-eqb, le-leb, leb-true, ne-eqb, not-true}
 use Rattle.channel.specs.declared.Record.{Record}
 use Rattle.channel.specs.Record.{StaysSound, addressed, complete, dataHighPresent, kept, null, number, present, sound, withAddressBank, withAddressIndex, withBankHigh, withBankLow, withBankSpent, withDataHigh}
-use Rattle.channel.proofs.Bools.{and-left, and-right, bools}
+use Rattle.ground.proofs.Bools.{and-left, and-right, bools}
 
 -- The tree of the code, way by way, over the tests. `m`: the bank halves are numbers; `l` and `z`: the kind is at most 2, is none; `p` and `x`: the
 -- address bank is at most 127, is missing; `q` and `y`: the index; `n` and `d`: data high; `u`: the address is null.
