@@ -152,6 +152,6 @@ module _ (g : Group) (c : Channel) (hg : g .0 < 16) (hc : c .0 < 16) where
 pub proved-reads-back : ReadsBack
 proved-reads-back =
     record {
-      midi1 = λ g c m hg hc h. let p = place1 g c hg hc m h in (read1-write1 g c hg hc m h, p .0, p .1, p .2);
-      midi2 = λ g c m hg hc h. let p = place2 g c hg hc m h in (read2-write2 g c hg hc m h, p .0, p .1, p .2);
+      midi1 = λ g c m hg hc h. (read1-write1 g c hg hc m h, place1 g c hg hc m h);
+      midi2 = λ g c m hg hc h. (read2-write2 g c hg hc m h, place2 g c hg hc m h);
     }
