@@ -45,7 +45,7 @@ use Rattle.ump.proofs.next_place.Met as next-place-thm
 use Rattle.reader.specs.declared.Reader.{Reader}
 use Rattle.reader.proofs.Reader.Laws as T′
 use Rattle.reader.proofs.ReaderOwns.{B, Decl, Law, mach, v, Own, twice, apart}
-use Rattle.reader.proofs.Post.{result-is}
+use Rattle.ground.proofs.Post.{result-is}
 use Rattle.reader.proofs.moved_on.Key.{name as #reader·moved-on}
 use Rattle.reader.proofs.moved_on as go
 use Rattle.reader.proofs.moved_on.Statement as stated
