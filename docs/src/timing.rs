@@ -5,26 +5,29 @@ use reading::{empty, size, Done, Record};
 use std::time::{Duration, Instant};
 
 const WORDS: usize = 1_000_000;
-const REPETITIONS: usize = 15;
+const ROUNDS: usize = 15;
 
 type RunUp = fn(&[u32], &mut [Record], &mut [u32]) -> Done;
 
-/// Times both sides in turn and prints a row for each mix: its name, then the best milliseconds
-/// of the product and of the reading.
+/// Times both sides in turn, in each round the other one first, and prints a row for each mix: its
+/// name, then the best nanoseconds a word of the product and of the reading.
 pub fn compare(product: RunUp, reading: RunUp) {
+    let sides = [product, reading];
     let mut out = vec![0; 2 * WORDS];
-    for (mix, words) in [
-        ("random-mix", random_mix()),
-        ("played-music", played_music()),
-    ] {
-        let mut best = [Duration::MAX; 2];
-        for _ in 0..REPETITIONS {
-            for (side, run) in [product, reading].into_iter().enumerate() {
-                best[side] = best[side].min(time(run, &words, &mut out));
+    let mut mixes = [
+        ("random-mix", random_mix(), [Duration::MAX; 2]),
+        ("played-music", played_music(), [Duration::MAX; 2]),
+    ];
+    for round in 0..ROUNDS {
+        for (_, words, best) in &mut mixes {
+            for side in [round % 2, 1 - round % 2] {
+                best[side] = best[side].min(time(sides[side], words, &mut out));
             }
         }
-        let [product, reading] = best.map(|time| time.as_secs_f64() * 1000.0);
-        println!("{} {:.3} {:.3}", mix, product, reading);
+    }
+    for (mix, _, best) in mixes {
+        let [product, reading] = best.map(|time| time.as_secs_f64() * 1e9 / WORDS as f64);
+        println!("{} {:.4} {:.4}", mix, product, reading);
     }
 }
 
