@@ -4,3 +4,4 @@ pub mod More
 pub mod Walk
 pub mod Post
 pub mod Again
+pub mod StoreLaws
