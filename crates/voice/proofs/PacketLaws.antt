@@ -14,12 +14,13 @@ use Rattle.ground.proofs.Cases.{by-bool, choose, not-both}
 use Rattle.ump.specs.Word.{channelOf, groupOf, messageType, voice1, voice2}
 use Rattle.ump.specs.Packet.{first, packet, second, size}
 use Rattle.ump.proofs.PacketLaws.{packet-near, packet-size}
-use Rattle.stream.specs.Answers.{cutPacket, noForm, notSound, sent, takenIn}
+use Rattle.stream.specs.Answers.{cutPacket, noForm, notSound, sent, stopsRun, takenIn}
 use Rattle.stream.specs.Call.{Call, answerOf, fit, leftOf, refused, sentOf, stopped, went}
 use Rattle.stream.proofs.CallLaws.{refusal}
+use Rattle.stream.proofs.RunLaws.{Does}
 use Rattle.stream.proofs.RunLoop.{Inside}
 use Rattle.screen.specs.Screen.{checkVoice1, goesOn, screen, screened}
-use Rattle.screen.proofs.ScreenLaws.{screen-voice1, screened-cases}
+use Rattle.screen.proofs.ScreenLaws.{cut-only, screen-voice1, screened-cases}
 use Rattle.channel.specs.declared.Record.{Record}
 use Rattle.channel.specs.Record.{sound}
 use Rattle.message.specs.Message.{Midi1, Midi2, read1, read2, write1, write2}
@@ -54,17 +55,21 @@ pub down-inside : (t : Unit {0}) (w : ℕ) (s : List ℕ) → Inside (w ∷ s) (
 unfolding callDown packetDown screen screened refused
 down-inside t w s = packet-inside packetDown refl w s
 
--- What a call up comes to with the record r, at the packet p whose first word is w: refused, sent on, or a voice message.
-pub record UpCases (P : Call Record → Type 0) (r : Record) (p : List ℕ) (w : ℕ) : Type 0 where
-  pub refuses : (screen voice2 p .answer ≡ goesOn → ⊥) → P (refused (screen voice2 p .answer) r)
-  pub onward : screen voice2 p .answer ≡ goesOn → eqb (messageType w) voice1 ≡ false → P (went sent p r)
+-- What a call up comes to at the packet p, whose first word is w, with the record r: refused, sent on, or a voice message. In a
+-- state t, where `put` puts a record back.
+pub record UpCases {T : Type 0} (P : Call T → Type 0) (t : T) (put : Record → T) (r : Record) (p : List ℕ) (w : ℕ) : Type 0 where
+  pub refuses : (screen voice2 p .answer ≡ goesOn → ⊥) → P (refused (screen voice2 p .answer) t)
+  pub onward : screen voice2 p .answer ≡ goesOn → eqb (messageType w) voice1 ≡ false → P (went sent p t)
   pub unsound : screen voice2 p .answer ≡ goesOn → eqb (messageType w) voice1 ≡ true → sound r ≡ false → P (stopped notSound)
   pub takes : screen voice2 p .answer ≡ goesOn → eqb (messageType w) voice1 ≡ true → sound r ≡ true
-      → lift r (read1 w) .sends ≡ none → P (went takenIn [] (lift r (read1 w) .after))
+      → lift r (read1 w) .sends ≡ none → P (went takenIn [] (put (lift r (read1 w) .after)))
   pub sends : screen voice2 p .answer ≡ goesOn → eqb (messageType w) voice1 ≡ true → sound r ≡ true → (m : Midi2)
-      → lift r (read1 w) .sends ≡ some m → P (went sent (write2 (groupOf w) (channelOf w) m) (lift r (read1 w) .after))
+      → lift r (read1 w) .sends ≡ some m → P (went sent (write2 (groupOf w) (channelOf w) m) (put (lift r (read1 w) .after)))
 
-pub up-cases : (P : Call Record → Type 0) (r : Record) (p : List ℕ) → UpCases P r p (first p) → P (packetUp r p)
+abbrev itself : Record → Record
+itself r = r
+
+pub up-cases : (P : Call Record → Type 0) (r : Record) (p : List ℕ) → UpCases P r itself r p (first p) → P (packetUp r p)
 unfolding packetUp speakUp
 up-cases P r p u =
     screened-cases P (screen voice2 p) r (actUp r p)
@@ -101,6 +106,36 @@ down-cases P p d =
         → lower (read2 (first p) (second p)) ≡ ms → P (sendingDown (groupOf (first p)) (channelOf (first p)) ms)
     go f e [] k = d .formless f e k
     go f e (m ∷ ms) k = d .sends f e m ms k
+
+-- what is left, if a call goes on, and what it stops with
+refused-does : {T : Type 0} (I : T → Type 0) (A : ℕ → Type 0) (wrong : ℕ) (p : List ℕ) (t : T) → I t → A cutPacket
+    → Does I A (refused (screen wrong p .answer) t)
+unfolding refused screen
+refused-does I A wrong p t h three =
+    choose (Does I A) (stopsRun (screen wrong p .answer))
+    (λ e. subst (λ (q : List ℕ). A (screen wrong q .answer)) (sym (cut-only wrong p e)) three) (λ _. h)
+
+pub up-does : (I : Record → Type 0) (A : ℕ → Type 0) (r : Record) (p : List ℕ) → I r → A cutPacket
+    → (sound r ≡ false → A notSound) → (sound r ≡ true → I (lift r (read1 (first p)) .after)) → Does I A (packetUp r p)
+up-does I A r p h three eight after =
+    up-cases (Does I A) r p
+    (record {
+      refuses = λ _. refused-does I A voice2 p r h three;
+      onward = λ _ _. h;
+      unsound = λ _ _. eight;
+      takes = λ _ _ e _. after e;
+      sends = λ _ _ e _ _. after e;
+    })
+
+pub down-does : (A : ℕ → Type 0) (p : List ℕ) → A cutPacket → Does (λ _. Unit {0}) A (packetDown p)
+down-does A p three =
+    down-cases (Does (λ _. Unit {0}) A) p
+    (record {
+      refuses = λ _. refused-does (λ _. Unit {0}) A voice1 p tt tt three;
+      onward = λ _ _. tt;
+      formless = λ _ _ _. tt;
+      sends = λ _ _ _ _ _. tt;
+    })
 
 -- at most four words are sent
 abbrev Few : {T : Type 0} → Call T → Type 0
