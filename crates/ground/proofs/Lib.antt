@@ -5,3 +5,4 @@ pub mod Walk
 pub mod Post
 pub mod Again
 pub mod Tests
+pub mod StoreLaws

@@ -8,8 +8,8 @@ use lib.Dec.{eqb}
 use lib.ListN.{length}
 use Rattle.ump.specs.Word.{byte3, byte4, status}
 use Rattle.scale.specs.Scale.{down}
-use Rattle.message.specs.Message.{Bank, Midi2, assignable2, assignablePerNote2, bank, channelPressure2, controlChange1, controlChange2, noBank, noteOff2, noteOn2, perNoteManagement2, perNotePitchBend2, pitchBend2, polyPressure2, programChange2, read2, registered2, registeredPerNote2, relativeAssignable2, relativeRegistered2}
-use Rattle.lower.specs.Lower.{entered, formless, lower}
+use Rattle.message.specs.Message.{Bank, Midi2, assignable2, assignablePerNote2, bank, channelPressure2, controlChange1, controlChange2, noBank, noteOff2, noteOn2, perNoteManagement2, perNotePitchBend2, part, pitchBend2, polyPressure2, programChange2, read2, registered2, registeredPerNote2, relativeAssignable2, relativeRegistered2}
+use Rattle.lower.specs.Lower.{entered, lower}
 
 -- the statuses that have no form: 0, 1, 4, 5, 6 and F
 pub formless-status : (w v : ℕ) → eqb (status w) 2 ≡ false → eqb (status w) 3 ≡ false → eqb (status w) 8 ≡ false → eqb (status w) 9 ≡ false → eqb (status w) 10 ≡ false
@@ -49,7 +49,7 @@ lower-few (perNotePitchBend2 n v) = omega arith
 lower-few (noteOff2 n v) = omega arith
 lower-few (noteOn2 n v) = omega arith
 lower-few (polyPressure2 n v) = omega arith
-lower-few (controlChange2 i v) = go (formless i)
+lower-few (controlChange2 i v) = go (part i)
   where
     go : (t : Bool) → length (cond t [] (controlChange1 i (down 32 7 v) ∷ [])) ≤ 4
     go true = omega arith

@@ -7,14 +7,16 @@ use Prim.Native.Nat.{ℕ, zero, suc, _<_}
 use native.Mathlib.Omega.{arith}
 use lib.Dec.{eqb, leb}
 use lib.ListN.{length}
-use borrow.Author.Tests.{lt-leb}
+use borrow.Author.Tests.{eqb-false, eqb-true, lt-leb}
 use Rattle.ground.proofs.Cases.{choose, not-both}
 use Rattle.ump.specs.Word.{count, messageType, voice2}
 use Rattle.ump.specs.Packet.{first, second}
-use Rattle.stream.specs.Answers.{stopsRun, takenIn}
+use Rattle.ump.proofs.PacketLaws.{at-none}
+use Rattle.stream.specs.Answers.{badData, badStatus, cutPacket, reservedType, stopsRun, takenIn, wrongProtocol}
+use Rattle.stream.specs.Call.{Call, refused}
 use Rattle.screen.specs.declared.Screened.{Screened}
-use Rattle.screen.specs.Check.{Field, checkedFields, exclusiveFields, goodFields, goodStatus}
-use Rattle.screen.specs.Screen.{checkVoice1, checking, goesOn, reserved, screen}
+use Rattle.screen.specs.Check.{Field, checkedFields, exclusiveFields, goodFields, goodStatus, voice1Fields, voice1Status}
+use Rattle.screen.specs.Screen.{answering, checkVoice1, checking, goesOn, reserved, screen, screened}
 
 first-above : (f : Field) (fs : List Field) → leb (f .value) (f .most) ≡ false → goodFields (f ∷ fs) ≡ false
 unfolding goodFields
@@ -42,7 +44,75 @@ pub screen-voice1 : (w : ℕ) → messageType w ≡ 2 → screen voice2 (w ∷ [
 unfolding screen goodStatus checkedFields checkVoice1
 screen-voice1 w h = rw h
 
--- what holds of each finding holds of the screening
-by-finding : (P : Screened → Type 0) (b : Bool) (fs : List Field) → ((a : ℕ) → P (record { answer = a; place = 0 })) → P (checking b fs)
-by-finding P true fs h = choose P (not (goodFields fs)) (λ _. h 7) (λ _. h 0)
-by-finding P false fs h = h 6
+-- what holds of every answer of the check holds of it, and so of the screening
+checks : (P : Screened → Type 0) (b : Bool) (fs : List Field) → P (answering badStatus) → P (answering badData)
+    → P (answering goesOn) → P (checking b fs)
+checks P b fs status fields good =
+    choose P (not b) (λ _. status) (λ _. choose P (not (goodFields fs)) (λ _. fields) (λ _. good))
+
+screens : (P : Screened → Type 0) (wrong : ℕ) (p : List ℕ) → (p ≡ [] → P (answering cutPacket)) → P (answering reservedType)
+    → P (answering wrongProtocol) → P (answering badStatus) → P (answering badData) → P (answering goesOn) → P (screen wrong p)
+unfolding screen
+screens P wrong p none reserved-type protocol status fields good =
+    choose P (eqb (length p) 0) (λ e. none (at-none p (eqb-true (length p) 0 e)))
+    (λ _. choose P (reserved (messageType (first p))) (λ _. reserved-type)
+    (λ _. choose P (eqb (messageType (first p)) wrong) (λ _. protocol)
+    (λ _. checks P (goodStatus (first p)) (checkedFields (first p) (second p)) status fields good)))
+
+-- only where no packet is whole does the screening stop a run
+pub cut-only : (wrong : ℕ) (p : List ℕ) → stopsRun (screen wrong p .answer) ≡ true → p ≡ []
+cut-only wrong p =
+    screens (λ (s : Screened). stopsRun (s .answer) ≡ true → p ≡ []) wrong p (λ e _. e) not-both not-both not-both not-both not-both
+
+pub check-goes-on : (w : ℕ) → stopsRun (checkVoice1 w .answer) ≡ false
+unfolding checkVoice1
+check-goes-on w = checks (λ (s : Screened). stopsRun (s .answer) ≡ false) (voice1Status w) (voice1Fields w) refl refl refl
+
+-- a refusal is neither `sent` nor `takenIn`
+abbrev Above : Screened → Type 0
+Above s = (s .answer ≡ goesOn → ⊥) → leb (s .answer) takenIn ≡ false
+
+pub refused-above : (wrong : ℕ) (p : List ℕ) → (screen wrong p .answer ≡ goesOn → ⊥) → leb (screen wrong p .answer) takenIn ≡ false
+refused-above wrong p = screens Above wrong p (λ _ _. refl) (λ _. refl) (λ _. refl) (λ _. refl) (λ _. refl) (λ n. absurd (n refl))
+
+pub check-above : (w : ℕ) → (checkVoice1 w .answer ≡ goesOn → ⊥) → leb (checkVoice1 w .answer) takenIn ≡ false
+unfolding checkVoice1
+check-above w = checks Above (voice1Status w) (voice1Fields w) (λ _. refl) (λ _. refl) (λ n. absurd (n refl))
+
+-- a packet that goes on is no empty part, and nothing is wrong with it
+pub record Passed (wrong : ℕ) (p : List ℕ) : Type 0 where
+  pub some : eqb (length p) 0 ≡ false
+  pub free : reserved (messageType (first p)) ≡ false
+  pub right : eqb (messageType (first p)) wrong ≡ false
+  pub status : goodStatus (first p) ≡ true
+  pub data-fields : goodFields (checkedFields (first p) (second p)) ≡ true
+
+pub passed : (wrong : ℕ) (p : List ℕ) → screen wrong p .answer ≡ goesOn → Passed wrong p
+unfolding screen
+passed wrong p =
+    go (eqb (length p) 0) (reserved (messageType (first p))) (eqb (messageType (first p)) wrong) (goodStatus (first p))
+    (goodFields (checkedFields (first p) (second p))) refl refl refl refl refl
+  where
+    go : (a b c d e : Bool) → eqb (length p) 0 ≡ a → reserved (messageType (first p)) ≡ b → eqb (messageType (first p)) wrong ≡ c
+        → goodStatus (first p) ≡ d → goodFields (checkedFields (first p) (second p)) ≡ e
+        → cond a (answering cutPacket) (cond b (answering reservedType) (cond c (answering wrongProtocol)
+        (cond (not d) (answering badStatus) (cond (not e) (answering badData) (answering goesOn))))) .answer ≡ goesOn
+        → Passed wrong p
+    go true b c d e x y z v u h = absurd (omega (arith, h))
+    go false true c d e x y z v u h = absurd (omega (arith, h))
+    go false false true d e x y z v u h = absurd (omega (arith, h))
+    go false false false false e x y z v u h = absurd (omega (arith, h))
+    go false false false true false x y z v u h = absurd (omega (arith, h))
+    go false false false true true x y z v u h = record { some = x; free = y; right = z; status = v; data-fields = u }
+
+-- a screened call is the act, or one refusal
+pub screened-cases : {T : Type 0} (P : Call T → Type 0) (s : Screened) (t : T) (act : Call T) → (s .answer ≡ goesOn → P act)
+    → ((s .answer ≡ goesOn → ⊥) → P (refused (s .answer) t)) → P (screened s t act)
+unfolding screened
+screened-cases P s t act f g =
+    choose P (eqb (s .answer) goesOn) (λ e. f (eqb-true (s .answer) goesOn e)) (λ e. g (eqb-false (s .answer) goesOn e))
+
+pub screened-cond : {T : Type 0} (s : Screened) (t : T) (b : Bool) (x y : Call T)
+    → screened s t (cond b x y) ≡ cond b (screened s t x) (screened s t y)
+screened-cond s t true x y = refl
+screened-cond s t false x y = refl

@@ -1,5 +1,8 @@
 use Rattle.lift.specs.Lift.{}
 use Rattle.ground.proofs.Tests.{tests}
+use mathlib.Core.Path.{sym, _∙_}
+use Rattle.lift.specs.Lift.{changing, controlled}
+use Rattle.lift.proofs.LiftLaws.{plain-control}
 use borrow.Author.Needs.{needs}
 use Rattle.lift.proofs.control_change.Statement.{statement}
 use Rattle.lift.proofs.control_change.Tie as tie
@@ -23,7 +26,11 @@ returns : tie.Need-returns
 returns c = simp (tests, c .controlled .ensures, c .before .control-of .ensures, c .before .before .if1 .taken, ← c .before .before .before .is-part .ensures, c .before .before .before .before .data1 .ensures)
 
 returns-2 : tie.Need-returns-2
-returns-2 c = simp (tests, c .plain .ensures, c .before .if1 .left, ← c .before .before .is-part .ensures, c .before .before .before .data1 .ensures)
+unfolding changing controlled
+returns-2 c =
+    let i = c .before .before .before .data1 in
+    let e = plain-control (i .result) (sym (c .before .before .is-part .ensures) ∙ c .before .if1 .left) in
+    simp (c .plain .ensures, rw (i .ensures) at e)
 
 pub control-change-spec : {M : Type 1} → statement M
 control-change-spec =

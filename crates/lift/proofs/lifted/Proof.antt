@@ -2,6 +2,7 @@ use Rattle.ground.proofs.Tests.{tests}
 use Rattle.lift.specs.Lift.{changes, lift}
 use Rattle.message.specs.Message.{first2, read1, second2}
 use Rattle.ump.proofs.FieldLaws.{seven-bits1, seven-bits2}
+use Rattle.lift.proofs.WayLaws.{bend-way, note-way}
 use borrow.Author.Needs.{needs}
 use Rattle.lift.proofs.lifted.Statement.{statement}
 use Rattle.lift.proofs.lifted.Tie as tie
@@ -13,8 +14,10 @@ note-requires : tie.Need-note-requires
 note-requires c κs = search needs
 
 returns : tie.Need-returns
-unfolding changes first2 lift read1 second2
-returns c = simp (tests, c .note .ensures, c .before .if1 .taken, ← c .before .before .status .ensures)
+returns c =
+    let w = c .before .before .before .args .w in
+    let r = c .before .before .before .args .«record» in
+    rw (c .note .ensures, c .before .before .status .ensures) (note-way w r (rw (c .before .before .status .ensures) at (c .before .if1 .taken)))
 
 data1-requires : tie.Need-data1-requires
 data1-requires c κs = search needs
@@ -73,7 +76,7 @@ returns-5 c = simp (seven-bits1, seven-bits2, tests, c .sent-up2 .ensures, c .be
 
 returns-6 : tie.Need-returns-6
 unfolding changes first2 lift read1 second2
-returns-6 c = simp (seven-bits1, seven-bits2, tests, c .sent-up3 .ensures, c .before .fourteen .ensures, c .before .before .data13 .ensures, c .before .before .before .data22 .ensures, c .before .before .before .before .match .rest .1, c .before .before .before .before .match .rest .0 .1, c .before .before .before .before .match .rest .0 .0 .1, c .before .before .before .before .match .rest .0 .0 .0 .1, c .before .before .before .before .before .if1 .left, ← c .before .before .before .before .before .before .status .ensures)
+returns-6 c = simp (bend-way, tests, c .sent-up3 .ensures, c .before .fourteen .ensures, c .before .before .data13 .ensures, c .before .before .before .data22 .ensures, c .before .before .before .before .match .rest .1, c .before .before .before .before .match .rest .0 .1, c .before .before .before .before .match .rest .0 .0 .1, c .before .before .before .before .match .rest .0 .0 .0 .1, c .before .before .before .before .before .if1 .left, ← c .before .before .before .before .before .before .status .ensures)
 
 pub lifted-spec : {M : Type 1} → statement M
 lifted-spec =

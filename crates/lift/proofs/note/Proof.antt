@@ -31,7 +31,7 @@ sent-up-requires c κs = search needs
 
 -- src/lib.rt:203:1
 returns : tie.Need-returns
-returns c = ?
+returns c = simp (c .sent-up .ensures, c .before .velocity .ensures, c .before .before .data1 .ensures, c .before .before .before .shown .ensures, c .before .before .before .before .data2 .ensures)
 
 pub note-spec : {M : Type 1} → statement M
 note-spec =

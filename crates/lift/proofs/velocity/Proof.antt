@@ -18,8 +18,8 @@ up-7-to-16-requires c κs = search needs
 
 mul-result : tie.Need-mul-result
 mul-result c =
-    let v = c .before .before .args .w % 2 ^ 7 in
-    record { fits = omega (arith, c .up-7-to-16 .ensures, c .before .data2 .ensures, up-lt 7 16 (v % 2 ^ 7) (omega arith) (omega arith)) }
+    let n = c .before .data2 .result % 2 ^ 7 in
+    record { fits = omega (arith, c .up-7-to-16 .ensures, up-lt 7 16 n (omega arith) (omega arith)) }
 
 returns : tie.Need-returns
 returns c = simp (c .up-7-to-16 .ensures, c .before .data2 .ensures, seven-bits2)

@@ -1,0 +1,193 @@
+-- Laws of going up: a message that is read fits, and keeps a record sound; which messages change no record; and what going up
+-- can send. Assumes nothing.
+use Prim.Native.Nat.{ℕ, _+_, _*_, _%_, _^_, _<_, _≤_}
+use mathlib.Core.Path.{_≡_, refl, sym, ap, _∙_}
+use mathlib.Core.Bool.{Bool, true, false, _&&_}
+use mathlib.Core.Option.{Option, none, some}
+use native.Mathlib.Omega.{arith}
+use lib.Dec.{eqb, leb}
+use borrow.Author.Tests.{eqb-false, leb-true, lt-leb, ne-eqb, not-true}
+use Rattle.ground.proofs.Bools.{and-left, and-right, or-false}
+use Rattle.ground.proofs.Cases.{choose, not-both}
+use Rattle.scale.specs.Scale.{down, up}
+use Rattle.scale.proofs.Laws.{down-up, proved-core-rules, up-lt}
+use Rattle.ump.specs.Word.{status}
+use Rattle.channel.specs.declared.Record.{Record}
+use Rattle.channel.specs.Record.{dataHighPresent, missing, number, present, registered, sound}
+use Rattle.channel.proofs.Sound.{opened, parts, proved-stays-sound}
+use Rattle.message.specs.Message.{Bank, Fits1, Fits2, Midi1, Midi2, assignable2, bank, channelPressure1, channelPressure2}
+use Rattle.message.specs.Message.{controlChange1, controlChange2, noBank, noteOff1, noteOff2, noteOn1, noteOn2, part, pitchBend1}
+use Rattle.message.specs.Message.{pitchBend2, polyPressure1, polyPressure2, programChange1, programChange2, read1, registered2}
+use Rattle.lift.specs.declared.Control.{Control}
+use Rattle.lift.specs.declared.Control.the-variants.{AssignableBank, AssignableIndex, BankHigh, BankLow, DataHigh, DataLow}
+use Rattle.lift.specs.declared.Control.the-variants.{Nothing, Plain, RegisteredBank, RegisteredIndex}
+use Rattle.lift.specs.Lift.{Lifted, addressed2, banked2, changes, changing, controlOf, controlled, dataLow, lift}
+
+pub read1-fits : (w : ℕ) → Fits1 (read1 w)
+unfolding read1
+read1-fits w =
+    choose Fits1 (eqb (status w) 8) (λ _. omega arith)
+    (λ _. choose Fits1 (eqb (status w) 9) (λ _. omega arith)
+    (λ _. choose Fits1 (eqb (status w) 10) (λ _. omega arith)
+    (λ _. choose Fits1 (eqb (status w) 11) (λ _. omega arith)
+    (λ _. choose Fits1 (eqb (status w) 12) (λ _. omega arith)
+    (λ _. choose Fits1 (eqb (status w) 13) (λ _. omega arith) (λ _. omega arith))))))
+
+-- what cannot change a record leaves it as it was
+pub unchanging : (r : Record) (m : Midi1) → changes m ≡ false → lift r m .after ≡ r
+unfolding lift changes changing controlled dataLow
+unchanging r (noteOff1 n v) h = refl
+unchanging r (noteOn1 n v) h = refl
+unchanging r (polyPressure1 n v) h = refl
+unchanging r (controlChange1 i v) h = go (controlOf i) h
+  where
+    go : (k : Control) → changing k ≡ false → controlled k r i v .after ≡ r
+    go BankHigh h = not-both (sym h)
+    go BankLow h = not-both (sym h)
+    go RegisteredBank h = not-both (sym h)
+    go RegisteredIndex h = not-both (sym h)
+    go AssignableBank h = not-both (sym h)
+    go AssignableIndex h = not-both (sym h)
+    go DataHigh h = not-both (sym h)
+    go DataLow h = choose (λ (x : Lifted). x .after ≡ r) (dataHighPresent r) (λ _. refl) (λ _. refl)
+    go Nothing h = refl
+    go Plain h = refl
+unchanging r (programChange1 p) h = not-both (sym h)
+unchanging r (channelPressure1 v) h = refl
+unchanging r (pitchBend1 v) h = refl
+
+-- a controller that has a form of its own is sent as itself, and no other is
+pub plain-control : (i : ℕ) → part i ≡ false → controlOf i ≡ Plain
+unfolding controlOf
+plain-control i h =
+    rw (no 0 refl, no 32 refl, no 101 refl, no 100 refl, no 99 refl, no 98 refl, no 6 refl, no 38 refl, no 96 refl, no 97 refl)
+  where
+    no : (k : ℕ) → part k ≡ true → eqb i k ≡ false
+    no k t = ne-eqb i k (λ e. not-both (sym h ∙ ap part e ∙ t))
+
+only-plain : (i : ℕ) → controlOf i ≡ Plain → part i ≡ false
+unfolding controlOf
+only-plain i e =
+    rw (ne-eqb i 0 (no 0 (λ x. cc)), ne-eqb i 6 (no 6 (λ x. cc)), ne-eqb i 32 (no 32 (λ x. cc)), ne-eqb i 38 (no 38 (λ x. cc)))
+    (go (leb 96 i) refl)
+  where
+    no : (k : ℕ) → (controlOf k ≡ Plain → _≡_ {A = ℕ} 0 1) → i ≡ k → ⊥
+    no k n q = let z = n (rw q at e) in omega arith
+
+    above : (i ≡ 96 → ⊥) → (i ≡ 97 → ⊥) → (i ≡ 98 → ⊥) → (i ≡ 99 → ⊥) → (i ≡ 100 → ⊥) → (i ≡ 101 → ⊥) → 96 ≤ i → 101 < i
+    above a b c d e f h = omega arith
+
+    go : (b : Bool) → leb 96 i ≡ b → (b && leb i 101) ≡ false
+    go false h = refl
+    go true h =
+        lt-leb i 101
+        (above (no 96 (λ x. cc)) (no 97 (λ x. cc)) (no 98 (λ x. cc)) (no 99 (λ x. cc)) (no 100 (λ x. cc)) (no 101 (λ x. cc))
+        (leb-true 96 i h))
+
+-- a value that was scaled up: scaled down, it fits, and scaled up again it is what it was
+abbrev pub Scaled : ℕ → ℕ → ℕ → Type 0
+Scaled s d v = (down d s v < 2 ^ s) × (up s d (down d s v) ≡ v)
+
+scaled : (s d v : ℕ) → v < 2 ^ s → Scaled s d (up s d v)
+scaled s d v h = rw (down-up s d v) (h, refl)
+
+-- what going up can send
+pub data Upward : Midi2 → Type 0 where
+  anyRegistered : {b i v : ℕ} → b ≤ 127 → i ≤ 127 → (eqb b 127 && eqb i 127) ≡ false → Scaled 14 32 v → Upward (registered2 b i v)
+  anyAssignable : {b i v : ℕ} → b ≤ 127 → i ≤ 127 → Scaled 14 32 v → Upward (assignable2 b i v)
+  anyNoteOff : {n v : ℕ} → n ≤ 127 → Scaled 7 16 v → Upward (noteOff2 n v)
+  anyNoteOn : {n v : ℕ} → n ≤ 127 → Scaled 7 16 v → (down 16 7 v ≡ 0 → ⊥) → Upward (noteOn2 n v)
+  anyPolyPressure : {n v : ℕ} → n ≤ 127 → Scaled 7 32 v → Upward (polyPressure2 n v)
+  anyPlain : {i v : ℕ} → i ≤ 127 → Scaled 7 32 v → part i ≡ false → Upward (controlChange2 i v)
+  anyProgram : {p : ℕ} → p ≤ 127 → Upward (programChange2 p noBank)
+  anyBankProgram : {p h l : ℕ} → p ≤ 127 → h ≤ 127 → l ≤ 127 → Upward (programChange2 p (bank h l))
+  anyPressure : {v : ℕ} → Scaled 7 32 v → Upward (channelPressure2 v)
+  anyBend : {v : ℕ} → Scaled 14 32 v → Upward (pitchBend2 v)
+
+velocity-fits : (v : ℕ) → Scaled 7 16 v → v < 2 ^ 16
+velocity-fits v h = rw (h .1) at (up-lt 7 16 (down 16 7 v) (omega arith) (h .0))
+
+pub upward-fits : (m : Midi2) → Upward m → Fits2 m
+upward-fits _ (anyRegistered hb hi n x) = omega arith
+upward-fits _ (anyAssignable hb hi x) = omega arith
+upward-fits _ (anyNoteOff {n} {v} h x) = (omega arith, velocity-fits v x)
+upward-fits _ (anyNoteOn {n} {v} h x z) = (omega arith, velocity-fits v x)
+upward-fits _ (anyPolyPressure h x) = omega arith
+upward-fits _ (anyPlain h x e) = omega arith
+upward-fits _ (anyProgram h) = omega arith
+upward-fits _ (anyBankProgram h x y) = omega arith
+upward-fits _ (anyPressure x) = tt
+upward-fits _ (anyBend x) = tt
+
+-- nothing, or something of the kind
+abbrev pub IfSome : {A : Type 0} → (A → Type 0) → Option A → Type 0
+IfSome P none = Unit {0}
+IfSome P (some x) = P x
+
+-- with a sound record
+module _ (r : Record) (ok : sound r ≡ true) where
+  -- what is sent to the record's address
+  data-low-upward : (v : ℕ) → v ≤ 127 → IfSome Upward (dataLow r v .sends)
+  unfolding dataLow addressed2
+  data-low-upward v h =
+      choose (λ (x : Lifted). IfSome Upward (x .sends)) (dataHighPresent r)
+      (λ p. let o = opened r ok p in
+      let x = scaled 14 32 ((r .«data_high» * 2 ^ 7 + v) % 2 ^ 14) (omega arith) in
+      choose Upward (eqb (r .kind) registered) (λ k. anyRegistered (o .bank-small) (o .index-small) (rw k at (o .not-null)) x)
+      (λ k. anyAssignable (o .bank-small) (o .index-small) x))
+      (λ _. tt)
+
+  pub lift-upward : (m : Midi1) → Fits1 m → IfSome Upward (lift r m .sends)
+  unfolding lift controlled banked2
+  lift-upward (noteOff1 n v) h = anyNoteOff (h .0) (scaled 7 16 v (omega arith))
+  lift-upward (noteOn1 n v) h =
+      choose Upward (eqb v 0) (λ _. anyNoteOff (h .0) (omega arith, proved-core-rules .minimum 7 16))
+      (λ e. anyNoteOn (h .0) (scaled 7 16 v (omega arith)) (λ z. eqb-false v 0 e (sym (down-up 7 16 v) ∙ z)))
+  lift-upward (polyPressure1 n v) h = anyPolyPressure (h .0) (scaled 7 32 v (omega arith))
+  lift-upward (controlChange1 i v) h = go (controlOf i) refl
+    where
+      go : (k : Control) → controlOf i ≡ k → IfSome Upward (controlled k r i v .sends)
+      go BankHigh e = tt
+      go BankLow e = tt
+      go RegisteredBank e = tt
+      go RegisteredIndex e = tt
+      go AssignableBank e = tt
+      go AssignableIndex e = tt
+      go DataHigh e = tt
+      go DataLow e = data-low-upward v (h .1)
+      go Nothing e = tt
+      go Plain e = anyPlain (h .0) (scaled 7 32 v (omega arith)) (only-plain i e)
+  lift-upward (programChange1 p) h =
+      let q = parts r ok in
+      choose (λ (b : Bank). Upward (programChange2 p b)) (present (r .«bank_high») && present (r .«bank_low»))
+      (λ e. anyBankProgram h
+      (half (r .«bank_high») (q .high) (and-left (present (r .«bank_high»)) (present (r .«bank_low»)) e))
+      (half (r .«bank_low») (q .low) (and-right (present (r .«bank_high»)) (present (r .«bank_low»)) e)))
+      (λ _. anyProgram h)
+    where
+      half : (n : ℕ) → number n ≡ true → present n ≡ true → n ≤ 127
+      half n k e = leb-true n 127 (rw (not-true (eqb n missing) e, or-false) at k)
+  lift-upward (channelPressure1 v) h = anyPressure (scaled 7 32 v (omega arith))
+  lift-upward (pitchBend1 v) h = anyBend (scaled 14 32 v (omega arith))
+
+  pub lift-sound : (m : Midi1) → Fits1 m → sound (lift r m .after) ≡ true
+  unfolding lift controlled dataLow
+  lift-sound (noteOff1 n v) h = ok
+  lift-sound (noteOn1 n v) h = ok
+  lift-sound (polyPressure1 n v) h = ok
+  lift-sound (controlChange1 i v) h = go (controlOf i)
+    where
+      go : (k : Control) → sound (controlled k r i v .after) ≡ true
+      go BankHigh = proved-stays-sound .bank-high r v (h .1) ok
+      go BankLow = proved-stays-sound .bank-low r v (h .1) ok
+      go RegisteredBank = proved-stays-sound .registered-bank r v (h .1) ok
+      go RegisteredIndex = proved-stays-sound .registered-index r v (h .1) ok
+      go AssignableBank = proved-stays-sound .assignable-bank r v (h .1) ok
+      go AssignableIndex = proved-stays-sound .assignable-index r v (h .1) ok
+      go DataHigh = proved-stays-sound .data-high r v (h .1) ok
+      go DataLow = choose (λ (x : Lifted). sound (x .after) ≡ true) (dataHighPresent r) (λ _. ok) (λ _. ok)
+      go Nothing = ok
+      go Plain = ok
+  lift-sound (programChange1 p) h = proved-stays-sound .bank-spent r ok
+  lift-sound (channelPressure1 v) h = ok
+  lift-sound (pitchBend1 v) h = ok

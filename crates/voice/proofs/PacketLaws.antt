@@ -1,0 +1,211 @@
+-- Laws of one packet: a call looks at its own packet alone, and goes on only with a whole one; it sends at most four words; and
+-- when it leaves its record as it was. Assumes nothing.
+use Prim.Native.Nat.{ℕ, suc, _≤_}
+use mathlib.Core.Path.{_≡_, refl, sym, ap, subst, _∙_}
+use mathlib.Core.Bool.{true, false}
+use mathlib.Core.Logic.{⊎-elim}
+use mathlib.Core.Option.{Option, none, some}
+use mathlib.Core.List.{List, [], _∷_, map}
+use native.Mathlib.Omega.{arith}
+use lib.Dec.{eqb, leb}
+use lib.ListN.{length, length-map, take}
+use lib.Seq.{length-take-le}
+use Rattle.ground.proofs.Cases.{by-bool, choose, not-both}
+use Rattle.ump.specs.Word.{channelOf, groupOf, messageType, voice1, voice2}
+use Rattle.ump.specs.Packet.{first, packet, second, size}
+use Rattle.ump.proofs.PacketLaws.{packet-near, packet-size}
+use Rattle.stream.specs.Answers.{cutPacket, noForm, notSound, sent, stopsRun, takenIn}
+use Rattle.stream.specs.Call.{Call, answerOf, fit, leftOf, refused, sentOf, stopped, went}
+use Rattle.stream.proofs.CallLaws.{refusal}
+use Rattle.stream.proofs.RunLaws.{Does}
+use Rattle.stream.proofs.RunLoop.{Inside}
+use Rattle.screen.specs.Screen.{checkVoice1, goesOn, screen, screened}
+use Rattle.screen.proofs.ScreenLaws.{cut-only, screen-voice1, screened-cases}
+use Rattle.channel.specs.declared.Record.{Record}
+use Rattle.channel.specs.Record.{sound}
+use Rattle.message.specs.Message.{Midi1, Midi2, read1, read2, write1, write2}
+use Rattle.lift.specs.Lift.{lift}
+use Rattle.lift.proofs.LiftLaws.{unchanging}
+use Rattle.lower.specs.Lower.{lower}
+use Rattle.lower.proofs.LowerLaws.{lower-few}
+use Rattle.voice.specs.Packet.{actDown, actUp, callDown, callUp, changesAt, packetDown, packetUp, sending, sendingDown}
+use Rattle.voice.specs.Packet.{speakDown, speakUp}
+use Rattle.voice.specs.Turn.{changedBy}
+
+pub down-near : (t : Unit {0}) (w : ℕ) (s : List ℕ) → callDown t (take (size w) (w ∷ s)) ≡ callDown t (w ∷ s)
+unfolding callDown
+down-near t w s = rw (packet-near w s)
+
+-- what stops where no packet is whole goes on only with a whole one
+packet-inside : {T : Type 0} (act : List ℕ → Call T) → act [] ≡ stopped cutPacket → (w : ℕ) (s : List ℕ)
+    → Inside (w ∷ s) (act (packet (w ∷ s)))
+packet-inside {T} act e w s =
+    ⊎-elim (λ n. subst (λ (c : Call T). Inside (w ∷ s) c) (sym (ap act n ∙ e)) tt)
+    (λ h. go (act (packet (w ∷ s))) (ap length (h .0) ∙ length-take-le (size w) (w ∷ s) (h .1)) (h .1)) (packet-size w s)
+  where
+    go : (c : Call T) → length (packet (w ∷ s)) ≡ size w → size w ≤ length (w ∷ s) → Inside (w ∷ s) c
+    go (went a ws u) e h = (e, h)
+    go (stopped a) e h = tt
+
+pub up-inside : (r : Record) (w : ℕ) (s : List ℕ) → Inside (w ∷ s) (callUp r (w ∷ s))
+unfolding callUp packetUp screen screened refused
+up-inside r w s = packet-inside (packetUp r) refl w s
+
+pub down-inside : (t : Unit {0}) (w : ℕ) (s : List ℕ) → Inside (w ∷ s) (callDown t (w ∷ s))
+unfolding callDown packetDown screen screened refused
+down-inside t w s = packet-inside packetDown refl w s
+
+-- What a call up comes to at the packet p, whose first word is w, with the record r: refused, sent on, or a voice message. In a
+-- state t, where `put` puts a record back.
+pub record UpCases {T : Type 0} (P : Call T → Type 0) (t : T) (put : Record → T) (r : Record) (p : List ℕ) (w : ℕ) : Type 0 where
+  pub refuses : (screen voice2 p .answer ≡ goesOn → ⊥) → P (refused (screen voice2 p .answer) t)
+  pub onward : screen voice2 p .answer ≡ goesOn → eqb (messageType w) voice1 ≡ false → P (went sent p t)
+  pub unsound : screen voice2 p .answer ≡ goesOn → eqb (messageType w) voice1 ≡ true → sound r ≡ false → P (stopped notSound)
+  pub takes : screen voice2 p .answer ≡ goesOn → eqb (messageType w) voice1 ≡ true → sound r ≡ true
+      → lift r (read1 w) .sends ≡ none → P (went takenIn [] (put (lift r (read1 w) .after)))
+  pub sends : screen voice2 p .answer ≡ goesOn → eqb (messageType w) voice1 ≡ true → sound r ≡ true → (m : Midi2)
+      → lift r (read1 w) .sends ≡ some m → P (went sent (write2 (groupOf w) (channelOf w) m) (put (lift r (read1 w) .after)))
+
+abbrev itself : Record → Record
+itself r = r
+
+pub up-cases : (P : Call Record → Type 0) (r : Record) (p : List ℕ) → UpCases P r itself r p (first p) → P (packetUp r p)
+unfolding packetUp speakUp
+up-cases P r p u =
+    screened-cases P (screen voice2 p) r (actUp r p)
+    (λ f. choose P (eqb (messageType w) voice1)
+    (λ e. choose P (sound r) (λ h. go f e h (lift r (read1 w) .sends) refl) (u .unsound f e)) (u .onward f))
+    (u .refuses)
+  where
+    w : ℕ
+    w = first p
+
+    go : screen voice2 p .answer ≡ goesOn → eqb (messageType w) voice1 ≡ true → sound r ≡ true → (o : Option Midi2)
+        → lift r (read1 w) .sends ≡ o → P (sending (groupOf w) (channelOf w) (lift r (read1 w) .after) o)
+    go f e h none k = u .takes f e h k
+    go f e h (some m) k = u .sends f e h m k
+
+-- and what a call down comes to
+pub record DownCases (P : Call (Unit {0}) → Type 0) (p : List ℕ) : Type 0 where
+  pub refuses : (screen voice1 p .answer ≡ goesOn → ⊥) → P (refused (screen voice1 p .answer) tt)
+  pub onward : screen voice1 p .answer ≡ goesOn → eqb (messageType (first p)) voice2 ≡ false → P (went sent p tt)
+  pub formless : screen voice1 p .answer ≡ goesOn → eqb (messageType (first p)) voice2 ≡ true
+      → lower (read2 (first p) (second p)) ≡ [] → P (went noForm [] tt)
+  pub sends : screen voice1 p .answer ≡ goesOn → eqb (messageType (first p)) voice2 ≡ true → (m : Midi1) (ms : List Midi1)
+      → lower (read2 (first p) (second p)) ≡ m ∷ ms
+      → P (went sent (map (write1 (groupOf (first p)) (channelOf (first p))) (m ∷ ms)) tt)
+
+pub down-cases : (P : Call (Unit {0}) → Type 0) (p : List ℕ) → DownCases P p → P (packetDown p)
+unfolding packetDown speakDown
+down-cases P p d =
+    screened-cases P (screen voice1 p) tt (actDown p)
+    (λ f. choose P (eqb (messageType (first p)) voice2) (λ e. go f e (lower (read2 (first p) (second p))) refl) (d .onward f))
+    (d .refuses)
+  where
+    go : screen voice1 p .answer ≡ goesOn → eqb (messageType (first p)) voice2 ≡ true → (ms : List Midi1)
+        → lower (read2 (first p) (second p)) ≡ ms → P (sendingDown (groupOf (first p)) (channelOf (first p)) ms)
+    go f e [] k = d .formless f e k
+    go f e (m ∷ ms) k = d .sends f e m ms k
+
+-- what is left, if a call goes on, and what it stops with
+refused-does : {T : Type 0} (I : T → Type 0) (A : ℕ → Type 0) (wrong : ℕ) (p : List ℕ) (t : T) → I t → A cutPacket
+    → Does I A (refused (screen wrong p .answer) t)
+unfolding refused screen
+refused-does I A wrong p t h three =
+    choose (Does I A) (stopsRun (screen wrong p .answer))
+    (λ e. subst (λ (q : List ℕ). A (screen wrong q .answer)) (sym (cut-only wrong p e)) three) (λ _. h)
+
+pub up-does : (I : Record → Type 0) (A : ℕ → Type 0) (r : Record) (p : List ℕ) → I r → A cutPacket
+    → (sound r ≡ false → A notSound) → (sound r ≡ true → I (lift r (read1 (first p)) .after)) → Does I A (packetUp r p)
+up-does I A r p h three eight after =
+    up-cases (Does I A) r p
+    (record {
+      refuses = λ _. refused-does I A voice2 p r h three;
+      onward = λ _ _. h;
+      unsound = λ _ _. eight;
+      takes = λ _ _ e _. after e;
+      sends = λ _ _ e _ _. after e;
+    })
+
+pub down-does : (A : ℕ → Type 0) (p : List ℕ) → A cutPacket → Does (λ _. Unit {0}) A (packetDown p)
+down-does A p three =
+    down-cases (Does (λ _. Unit {0}) A) p
+    (record {
+      refuses = λ _. refused-does (λ _. Unit {0}) A voice1 p tt tt three;
+      onward = λ _ _. tt;
+      formless = λ _ _ _. tt;
+      sends = λ _ _ _ _ _. tt;
+    })
+
+-- at most four words are sent
+abbrev Few : {T : Type 0} → Call T → Type 0
+Few c = length (sentOf c) ≤ 4
+
+refused-few : {T : Type 0} (a : ℕ) (t : T) → Few (refused a t)
+refused-few a t = rw (refusal a t [] (λ _. refl) .2) (omega arith)
+
+pub few-up : (r : Record) (p : List ℕ) → length p ≤ 4 → length (sentOf (packetUp r p)) ≤ 4
+few-up r p h =
+    up-cases Few r p
+    (record {
+      refuses = λ _. refused-few (screen voice2 p .answer) r;
+      onward = λ _ _. h;
+      unsound = λ _ _ _. omega arith;
+      takes = λ _ _ _ _. omega arith;
+      sends = λ _ _ _ _ _. omega arith;
+    })
+
+pub few-down : (p : List ℕ) → length p ≤ 4 → length (sentOf (packetDown p)) ≤ 4
+few-down p h =
+    down-cases Few p
+    (record {
+      refuses = λ _. refused-few (screen voice1 p .answer) tt;
+      onward = λ _ _. h;
+      formless = λ _ _ _. omega arith;
+      sends = λ _ _ m ms k.
+          let l : suc (length ms) ≤ 4 = rw k at (lower-few (read2 (first p) (second p))) in
+          omega (arith, length-map ms (write1 (groupOf (first p)) (channelOf (first p))));
+    })
+
+-- a MIDI 1.0 voice message by its one word
+pub packet-voice1 : (r : Record) (w : ℕ) → messageType w ≡ 2 → packetUp r (w ∷ []) ≡ screened (checkVoice1 w) r (speakUp r w)
+unfolding packetUp
+packet-voice1 r w h = rw (screen-voice1 w h, h)
+
+-- the record stays where the packet cannot change it, and where the answer is neither `sent` nor `takenIn`
+abbrev Stays : Record → Call Record → Type 0
+Stays r c = leftOf r c ≡ r
+
+pub unchanged-up : (r : Record) (p : List ℕ) → changesAt p ≡ false → leftOf r (packetUp r p) ≡ r
+unchanged-up r p h =
+    up-cases (Stays r) r p
+    (record {
+      refuses = λ _. refusal (screen voice2 p .answer) r [] (λ _. refl) .3;
+      onward = λ _ _. refl;
+      unsound = λ _ _ _. refl;
+      takes = λ _ e _ _. unchanging r (read1 (first p)) (rw e at h);
+      sends = λ _ e _ _ _. unchanging r (read1 (first p)) (rw e at h);
+    })
+
+pub refused-up : (r : Record) (p : List ℕ) → leb (answerOf (packetUp r p)) takenIn ≡ false → leftOf r (packetUp r p) ≡ r
+refused-up r p =
+    up-cases (λ (c : Call Record). leb (answerOf c) takenIn ≡ false → Stays r c) r p
+    (record {
+      refuses = λ _ _. refusal (screen voice2 p .answer) r [] (λ _. refl) .3;
+      onward = λ _ _ _. refl;
+      unsound = λ _ _ _ _. refl;
+      takes = λ _ _ _ _ h. not-both (sym h);
+      sends = λ _ _ _ _ _ h. not-both (sym h);
+    })
+
+-- so it stays in an output of so much room, where it is not reported as changed
+pub unchanged-in-room : (room : ℕ) (r : Record) (p : List ℕ) → changedBy (changesAt p) (fit room (packetUp r p)) ≡ false
+    → leftOf (room, r) (fit room (packetUp r p)) .1 ≡ r
+unchanged-in-room room r p = go (packetUp r p) (unchanged-up r p) (refused-up r p)
+  where
+    go : (c : Call Record) → (changesAt p ≡ false → Stays r c) → (leb (answerOf c) takenIn ≡ false → Stays r c)
+        → changedBy (changesAt p) (fit room c) ≡ false → leftOf (room, r) (fit room c) .1 ≡ r
+    go (stopped a) f g = λ _. refl
+    go (went a ws u) f g =
+        choose (λ (c : Call (ℕ × Record)). changedBy (changesAt p) c ≡ false → leftOf (room, r) c .1 ≡ r) (leb (length ws) room)
+        (λ _ h. by-bool (leb a takenIn) (λ e. f (rw e at h)) g) (λ _ _. refl)
