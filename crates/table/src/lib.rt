@@ -70,11 +70,11 @@ fn answer_of(last: bool, answer: u32) -> u32
 // One packet, with its record.
 fn step(words: &[u32], job: Job, p: Progress, record: Record, out: &mut [u32]) -> RecordAndProgress
 {
-    let so_far = p.done;
-    let turned = voice::up(words, so_far, record, out);
+    let past = p.done;
+    let turned = voice::up(words, past, record, out);
     let after = turned.after;
     let done = turned.done;
-    let last = job.once | (done.read == so_far.read);
+    let last = job.once | (done.read == past.read);
     let answer = answer_of(last, done.answer);
     RecordAndProgress {
         after,

@@ -1,1 +1,4 @@
 pub mod PacketLaws
+pub mod PutLaws
+pub mod DownLoop
+pub mod TurnLaws

@@ -23,10 +23,13 @@ abbrev pub sending : Group → Channel → Record → Option Midi2 → Call Reco
 sending g c r none = went takenIn [] r
 sending g c r (some m) = went sent (write2 g c m) r
 
+-- the call of a MIDI 1.0 voice message with a sound record
+abbrev pub spoken : Record → ℕ → Call Record
+spoken r w = sending (groupOf w) (channelOf w) (lift r (read1 w) .after) (lift r (read1 w) .sends)
+
 -- a checked MIDI 1.0 voice message acts with its record, if that is sound
 unfoldable pub speakUp : Record → ℕ → Call Record
-speakUp r w =
-    cond (sound r) (sending (groupOf w) (channelOf w) (lift r (read1 w) .after) (lift r (read1 w) .sends)) (stopped notSound)
+speakUp r w = cond (sound r) (spoken r w) (stopped notSound)
 
 -- what a MIDI 2.0 message becomes, unless it has no form
 abbrev pub sendingDown : Group → Channel → List Midi1 → Call (Unit {0})
@@ -36,12 +39,15 @@ sendingDown g c (m ∷ ms) = went sent (map (write1 g c) (m ∷ ms)) tt
 unfoldable pub speakDown : ℕ → ℕ → Call (Unit {0})
 speakDown w v = sendingDown (groupOf w) (channelOf w) (lower (read2 w v))
 
+abbrev pub voiceDown : List ℕ → Call (Unit {0})
+voiceDown p = speakDown (first p) (second p)
+
 -- the act of a packet that has been screened: voice messages are translated, and all others are sent on unchanged
 abbrev pub actUp : Record → List ℕ → Call Record
 actUp r p = cond (eqb (messageType (first p)) voice1) (speakUp r (first p)) (went sent p r)
 
 abbrev pub actDown : List ℕ → Call (Unit {0})
-actDown p = cond (eqb (messageType (first p)) voice2) (speakDown (first p) (second p)) (went sent p tt)
+actDown p = cond (eqb (messageType (first p)) voice2) (voiceDown p) (went sent p tt)
 
 -- What a packet does, going up with its own record; and going down, where no record is needed.
 unfoldable pub packetUp : Record → List ℕ → Call Record
@@ -49,6 +55,10 @@ packetUp r p = screened (screen voice2 p) r (actUp r p)
 
 unfoldable pub packetDown : List ℕ → Call (Unit {0})
 packetDown p = screened (screen voice1 p) tt (actDown p)
+
+-- the same for a packet that is no voice message of either protocol, or of the wrong one
+abbrev pub onwardOf : ℕ → List ℕ → Call (Unit {0})
+onwardOf wrong p = screened (screen wrong p) tt (went sent p tt)
 
 -- whether a packet may change its record
 abbrev pub changesAt : List ℕ → Bool

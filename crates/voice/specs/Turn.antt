@@ -1,17 +1,16 @@
 -- A call in the middle of a stream: after what was read and written so far, into an output that may already hold words.
-use Prim.Native.Nat.{ℕ, _-_}
+use Prim.Native.Nat.{ℕ, _+_, _-_}
 use mathlib.Core.Bool.{Bool, cond, _&&_}
-use mathlib.Core.List.{List, [], _∷_}
+use mathlib.Core.List.{List}
 use lib.ListN.{drop, length}
 use lib.Dec.{leb}
 use Rattle.ground.specs.Store.{written}
 use Rattle.ump.specs.Packet.{packet}
 use Rattle.stream.specs.declared.Done.{Done}
-use Rattle.stream.specs.Answers.{sent, takenIn}
-use Rattle.stream.specs.Call.{Call, answerOf, fit, leftOf, sentOf, went}
-use Rattle.stream.specs.Report.{further}
+use Rattle.stream.specs.Answers.{noRoom, sent, takenIn}
+use Rattle.stream.specs.Call.{Call, answerOf, fit, leftOf, sentOf}
+use Rattle.stream.specs.Report.{counting, further}
 use Rattle.channel.specs.declared.Record.{Record}
-use Rattle.lift.specs.declared.UpwardMessage.{UpwardMessage}
 use Rattle.voice.specs.declared.RecordAndReport.{RecordAndReport}
 
 -- the packet that is next
@@ -42,6 +41,15 @@ turned d p out r may c =
       done = reportOf d p out c;
     }
 
--- the call that a lifted message makes
-abbrev pub spoken : UpwardMessage → Call Record
-spoken m = cond (m .sends) (went sent (m .first ∷ m .second ∷ []) (m .after)) (went takenIn [] (m .after))
+-- A row of words for an output from a place on, which holds them all or none; and what a packet of n words that sends them
+-- comes to.
+abbrev pub storedIn : ℕ → List ℕ → List ℕ → List ℕ
+storedIn to out ws = cond (leb (length ws) (length out - to)) (written to ws out) out
+
+abbrev pub reportAfter : Done → ℕ → List ℕ → List ℕ → Done
+reportAfter d n out ws =
+    cond (leb (length ws) (length out - d .written)) (counting sent (d .read + n) (d .written + length ws))
+    (counting noRoom (d .read) (d .written))
+
+abbrev pub outputAfter : Done → List ℕ → List ℕ → List ℕ
+outputAfter d out ws = storedIn (d .written) out ws

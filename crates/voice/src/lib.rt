@@ -3,15 +3,15 @@
 //
 // A packet passes cut, type, check and act. No function has a `requires`, and each says what it
 // reports, what record it leaves and what the output holds after, on every input.
-mod down;
+mod downward;
 mod output;
-mod up;
+mod upward;
 
 use channel::Record;
-pub use down::down;
-pub use down::run_down;
+pub use downward::down;
+pub use downward::run_down;
 use stream::Done;
-pub use up::up;
+pub use upward::up;
 
 // A call up: the record after, whether it may have changed, and the report.
 pub struct RecordAndReport {

@@ -6,19 +6,14 @@ use stream::NO_ROOM;
 use stream::SENT;
 use stream::report;
 ghost use mathlib.Core.Path.{_≡_};
-ghost use mathlib.Core.Bool.{cond};
 ghost use Prim.Native.Nat.{_+_, _-_, _≤_, _<_, _^_};
 ghost use lib.Dec.{leb};
 ghost use lib.ListN.{length};
-ghost use Rattle.ground.specs.Store.{written};
-ghost use Rattle.stream.specs.Answers.{sent};
-ghost use Rattle.stream.specs.Call.{went};
 ghost use Rattle.stream.specs.Report.{counting};
-ghost use Rattle.screen.specs.Screen.{screened};
-ghost use Rattle.screen.specs.Screen;
 ghost use Rattle.lower.specs.Values.{packed};
 ghost use Rattle.voice.specs.Output.{sentWords};
-ghost use Rattle.voice.specs.Turn.{outputOf, reportOf};
+ghost use Rattle.voice.specs.Packet.{onwardOf};
+ghost use Rattle.voice.specs.Turn.{outputAfter, outputOf, reportAfter, reportOf, storedIn};
 
 // The free words of an output of so many, from a place on.
 pub(crate) fn room(len: usize, to: usize) -> usize
@@ -45,8 +40,7 @@ pub(crate) fn same_words(p: &[u32]) -> UpToFourWords
 fn put(out: &mut [u32], to: usize, words: UpToFourWords) -> bool
     requires { ⌜ words .count ≤ 4 ⌝ }
     ensures answer { λ r. ⌜ r ≡ leb (length (sentWords words)) (length (now (out .entry)) - to) ⌝ }
-    ensures output { λ _. ⌜ now (out .exit) ≡ cond (leb (length (sentWords words)) (length (now (out .entry)) - to))
-        (written to (sentWords words) (now (out .entry))) (now (out .entry)) ⌝ }
+    ensures output { λ _. ⌜ now (out .exit) ≡ storedIn to (now (out .entry)) (sentWords words) ⌝ }
 {
     let count = words.count;
     if room(out.len(), to) < count {
@@ -81,24 +75,21 @@ fn put(out: &mut [u32], to: usize, words: UpToFourWords) -> bool
 
 // The report of a refused packet of n words: it is read, and nothing else happens. A cut packet has
 // no words.
-pub(crate) fn refuse(so_far: Done, answer: u32, n: usize) -> Done
-    requires { ⌜ so_far .read + n < 2 ^ 64 ⌝ }
-    ensures { λ r. ⌜ r ≡ counting answer (so_far .read + n) (so_far .written) ⌝ }
+pub(crate) fn refuse(past: Done, answer: u32, n: usize) -> Done
+    requires { ⌜ past .read + n < 2 ^ 64 ⌝ }
+    ensures { λ r. ⌜ r ≡ counting answer (past .read + n) (past .written) ⌝ }
 {
-    report(answer, so_far.read + n, so_far.written)
+    report(answer, past.read + n, past.written)
 }
 
 // A packet of n words sends up to four words, if there is room for them.
-pub(crate) fn send(so_far: Done, n: usize, words: UpToFourWords, out: &mut [u32]) -> Done
-    requires { ⌜ (words .count ≤ 4) × (so_far .read + n < 2 ^ 64) ⌝ }
-    ensures report { λ r. ⌜ r ≡ cond (leb (length (sentWords words)) (length (now (out .entry)) - so_far .written))
-        (counting sent (so_far .read + n) (so_far .written + length (sentWords words)))
-        (counting noRoom (so_far .read) (so_far .written)) ⌝ }
-    ensures output { λ _. ⌜ now (out .exit) ≡ cond (leb (length (sentWords words)) (length (now (out .entry)) - so_far .written))
-        (written (so_far .written) (sentWords words) (now (out .entry))) (now (out .entry)) ⌝ }
+pub(crate) fn send(past: Done, n: usize, words: UpToFourWords, out: &mut [u32]) -> Done
+    requires { ⌜ (words .count ≤ 4) × (past .read + n < 2 ^ 64) ⌝ }
+    ensures report { λ r. ⌜ r ≡ reportAfter past n (now (out .entry)) (sentWords words) ⌝ }
+    ensures output { λ _. ⌜ now (out .exit) ≡ outputAfter past (now (out .entry)) (sentWords words) ⌝ }
 {
-    let read = so_far.read;
-    let to = so_far.written;
+    let read = past.read;
+    let to = past.written;
     let count = words.count;
     if put(out, to, words) {
         report(SENT, read + n, to + count)
@@ -108,15 +99,16 @@ pub(crate) fn send(so_far: Done, n: usize, words: UpToFourWords, out: &mut [u32]
 }
 
 // A packet that is sent on unchanged, unless the screening refuses it.
-pub(crate) fn onward(wrong: u32, so_far: Done, packet: &[u32], out: &mut [u32]) -> Done
-    requires { ⌜ (length (now packet) ≤ 4) × (so_far .read + length (now packet) < 2 ^ 64) ⌝ }
-    ensures report { λ r. ⌜ r ≡ reportOf so_far (now (packet .entry)) (now (out .entry)) (onwardOf wrong (now (packet .entry))) ⌝ }
-    ensures output { λ _. ⌜ now (out .exit) ≡ outputOf so_far (now (out .entry)) (onwardOf wrong (now (packet .entry))) ⌝ }
+pub(crate) fn onward(wrong: u32, past: Done, packet: &[u32], out: &mut [u32]) -> Done
+    requires { ⌜ (length (now packet) ≤ 4) × (past .read + length (now packet) < 2 ^ 64) ⌝ }
+    ensures report { λ r. ⌜ r
+        ≡ reportOf past (now (packet .entry)) (now (out .entry)) (onwardOf wrong (now (packet .entry))) ⌝ }
+    ensures output { λ _. ⌜ now (out .exit) ≡ outputOf past (now (out .entry)) (onwardOf wrong (now (packet .entry))) ⌝ }
 {
     let screened = screen::screen(wrong, packet);
     if screened.answer == GOES_ON {
-        send(so_far, packet.len(), same_words(packet), out)
+        send(past, packet.len(), same_words(packet), out)
     } else {
-        refuse(so_far, screened.answer, packet.len())
+        refuse(past, screened.answer, packet.len())
     }
 }

@@ -5,187 +5,93 @@ use native.Mathlib.Omega.{arith}
 use native.Mathlib.Numerals.{unary-clauses}
 use denote.Ref.{now}
 use lib.ListN.{length-set}
-use Rattle.voice.specs.Output.{wordsOf}
-use Rattle.voice.proofs.OutputLaws.{four, put-all, put-none, put-short}
+use Rattle.voice.specs.Output.{sentWords}
+use Rattle.voice.proofs.PutLaws.{four, put-all, put-none, put-short}
 use borrow.Author.Needs.{needs}
 use Rattle.voice.proofs.output.put.Statement.{statement}
 use Rattle.voice.proofs.output.put.Tie as tie
 
 -- in the last arm there are four words
-rest : (c : tie.At-match-rest) → c .before .before .before .before .args .sent .count ≡ 4
-rest c = four _ (c .before .before .before .before .pre) (c .before .before .before .if1 .left) (c .match .rest .0 .0 .1) (c .match .rest .0 .1) (c .match .rest .1)
+rest : (c : tie.At-match-rest) → c .before .before .before .before .args .words .count ≡ 4
+rest c =
+    four _ (c .before .before .before .before .pre) (c .match .rest .0 .0 .0 .1) (c .match .rest .0 .0 .1) (c .match .rest .0 .1) (c .match .rest .1)
 
 returns : tie.Need-returns
 returns c =
-    let g = c .before .args in
-    put-none (g .sent) (g .to) (now (g .out)) (c .before .pre) (c .if1 .taken)
+    let g = c .before .before .before .args in
+    put-short (g .words) (g .to) (now (g .out)) (c .before .before .before .pre) (omega (arith, c .if1 .taken, c .before .room .ensures))
 
 returns-2 : tie.Need-returns-2
 returns-2 c =
-    let g = c .before .before .args in
-    put-short (g .sent) (g .to) (now (g .out)) (c .before .before .pre) (omega arith)
-
-sub-room : tie.Need-sub-room
-sub-room c = search needs
+    let g = c .before .before .before .before .args in
+    put-none (g .words) (g .to) (now (g .out)) (c .before .before .before .before .pre) (c .match .keys1)
 
 returns-3 : tie.Need-returns-3
+unfolding sentWords
 returns-3 c =
-    let g = c .before .before .before .args in
-    put-short (g .sent) (g .to) (now (g .out)) (c .before .before .before .pre) (c .if3 .taken)
-
-mul-out : tie.Need-mul-out
-mul-out c = search needs
-
-slice-write-out : tie.Need-slice-write-out
-slice-write-out c = search needs
-
-mul-out-2 : tie.Need-mul-out-2
-mul-out-2 c = search needs
-
-slice-write-out-2 : tie.Need-slice-write-out-2
-slice-write-out-2 c = search needs
-
-add-out : tie.Need-add-out
-add-out c = search needs
-
-mul-out-3 : tie.Need-mul-out-3
-mul-out-3 c = search needs
-
-slice-write-out-3 : tie.Need-slice-write-out-3
-slice-write-out-3 c = simp length-set (omega (arith, c .match .keys2))
-
-mul-out-4 : tie.Need-mul-out-4
-mul-out-4 c = search needs
-
-slice-write-out-4 : tie.Need-slice-write-out-4
-slice-write-out-4 c = search needs
-
-add-out-2 : tie.Need-add-out-2
-add-out-2 c = search needs
-
-mul-out-5 : tie.Need-mul-out-5
-mul-out-5 c = search needs
-
-slice-write-out-5 : tie.Need-slice-write-out-5
-slice-write-out-5 c = simp length-set (omega (arith, c .match .keys3))
-
-add-out-3 : tie.Need-add-out-3
-add-out-3 c = search needs
-
-mul-out-6 : tie.Need-mul-out-6
-mul-out-6 c = search needs
-
-slice-write-out-6 : tie.Need-slice-write-out-6
-slice-write-out-6 c = simp length-set (omega (arith, c .match .keys3))
-
-mul-out-7 : tie.Need-mul-out-7
-mul-out-7 c = search needs
-
-slice-write-out-7 : tie.Need-slice-write-out-7
-slice-write-out-7 c = search needs
-
-add-out-4 : tie.Need-add-out-4
-add-out-4 c = search needs
-
-mul-out-8 : tie.Need-mul-out-8
-mul-out-8 c = search needs
-
-slice-write-out-8 : tie.Need-slice-write-out-8
-slice-write-out-8 c = simp length-set (omega (arith, rest c))
-
-add-out-5 : tie.Need-add-out-5
-add-out-5 c = search needs
-
-mul-out-9 : tie.Need-mul-out-9
-mul-out-9 c = search needs
-
-slice-write-out-9 : tie.Need-slice-write-out-9
-slice-write-out-9 c = simp length-set (omega (arith, rest c))
-
-add-out-6 : tie.Need-add-out-6
-add-out-6 c = search needs
-
-mul-out-10 : tie.Need-mul-out-10
-mul-out-10 c = search needs
-
-slice-write-out-10 : tie.Need-slice-write-out-10
-slice-write-out-10 c = simp length-set (omega (arith, rest c))
-
-same-length : tie.Need-same-length
-same-length c = search needs
+    let g = c .before .before .before .before .args in
+    put-all (g .words) (g .to) (now (g .out)) (c .before .before .before .before .pre) (g .words .first ∷ []) (rw (c .match .keys2)) (omega arith)
+    (omega (arith, c .match .keys2, c .before .if1 .left, c .before .before .room .ensures))
 
 returns-4 : tie.Need-returns-4
-unfolding wordsOf
+unfolding sentWords
 returns-4 c =
     let g = c .before .before .before .before .args in
-    put-all (g .sent) (g .to) (now (g .out)) (c .before .before .before .before .pre) (g .sent .a ∷ []) (rw (c .match .keys1)) (omega arith) (omega (arith, c .match .keys1))
-
-same-length-2 : tie.Need-same-length-2
-same-length-2 c = search needs
+    simp unary-clauses (put-all (g .words) (g .to) (now (g .out)) (c .before .before .before .before .pre) (g .words .first ∷ g .words .second ∷ []) (rw (c .match .keys3)) (omega arith)
+    (omega (arith, c .match .keys3, c .before .if1 .left, c .before .before .room .ensures)))
 
 returns-5 : tie.Need-returns-5
-unfolding wordsOf
+unfolding sentWords
 returns-5 c =
     let g = c .before .before .before .before .args in
-    simp unary-clauses (put-all (g .sent) (g .to) (now (g .out)) (c .before .before .before .before .pre) (g .sent .a ∷ g .sent .b ∷ []) (rw (c .match .keys2)) (omega arith) (omega (arith, c .match .keys2)))
-
-same-length-3 : tie.Need-same-length-3
-same-length-3 c = search needs
+    simp unary-clauses (put-all (g .words) (g .to) (now (g .out)) (c .before .before .before .before .pre) (g .words .first ∷ g .words .second ∷ g .words .third ∷ []) (rw (c .match .keys4)) (omega arith)
+    (omega (arith, c .match .keys4, c .before .if1 .left, c .before .before .room .ensures)))
 
 returns-6 : tie.Need-returns-6
-unfolding wordsOf
+unfolding sentWords
 returns-6 c =
     let g = c .before .before .before .before .args in
-    simp unary-clauses (put-all (g .sent) (g .to) (now (g .out)) (c .before .before .before .before .pre) (g .sent .a ∷ g .sent .b ∷ g .sent .c ∷ []) (rw (c .match .keys3)) (omega arith) (omega (arith, c .match .keys3)))
-
-same-length-4 : tie.Need-same-length-4
-same-length-4 c = search needs
-
-returns-7 : tie.Need-returns-7
-unfolding wordsOf
-returns-7 c =
-    let g = c .before .before .before .before .args in
-    simp unary-clauses (put-all (g .sent) (g .to) (now (g .out)) (c .before .before .before .before .pre) (g .sent .a ∷ g .sent .b ∷ g .sent .c ∷ g .sent .d ∷ []) (rw (rest c)) (omega arith) (omega (arith, rest c)))
+    simp unary-clauses (put-all (g .words) (g .to) (now (g .out)) (c .before .before .before .before .pre) (g .words .first ∷ g .words .second ∷ g .words .third ∷ g .words .fourth ∷ []) (rw (rest c)) (omega arith)
+    (omega (arith, rest c, c .before .if1 .left, c .before .before .room .ensures)))
 
 pub put-spec : {M : Type 1} → statement M
 put-spec =
     tie.close
     (tie.spec
+    (λ c κs. search needs)
     returns
+    (λ c. search needs)
+    (λ c. omega (arith, c .match .keys2, c .before .if1 .left, c .before .before .room .ensures))
+    (λ c. search needs)
+    (λ c. omega (arith, c .match .keys3, c .before .if1 .left, c .before .before .room .ensures))
+    (λ c. search needs)
+    (λ c. search needs)
+    (λ c. simp length-set (omega (arith, c .match .keys3, c .before .if1 .left, c .before .before .room .ensures)))
+    (λ c. search needs)
+    (λ c. omega (arith, c .match .keys4, c .before .if1 .left, c .before .before .room .ensures))
+    (λ c. search needs)
+    (λ c. search needs)
+    (λ c. simp length-set (omega (arith, c .match .keys4, c .before .if1 .left, c .before .before .room .ensures)))
+    (λ c. search needs)
+    (λ c. search needs)
+    (λ c. simp length-set (omega (arith, c .match .keys4, c .before .if1 .left, c .before .before .room .ensures)))
+    (λ c. search needs)
+    (λ c. omega (arith, rest c, c .before .if1 .left, c .before .before .room .ensures))
+    (λ c. search needs)
+    (λ c. search needs)
+    (λ c. simp length-set (omega (arith, rest c, c .before .if1 .left, c .before .before .room .ensures)))
+    (λ c. search needs)
+    (λ c. search needs)
+    (λ c. simp length-set (omega (arith, rest c, c .before .if1 .left, c .before .before .room .ensures)))
+    (λ c. search needs)
+    (λ c. search needs)
+    (λ c. simp length-set (omega (arith, rest c, c .before .if1 .left, c .before .before .room .ensures)))
     returns-2
-    sub-room
+    (λ c. search needs)
     returns-3
-    mul-out
-    slice-write-out
-    mul-out-2
-    slice-write-out-2
-    add-out
-    mul-out-3
-    slice-write-out-3
-    mul-out-4
-    slice-write-out-4
-    add-out-2
-    mul-out-5
-    slice-write-out-5
-    add-out-3
-    mul-out-6
-    slice-write-out-6
-    mul-out-7
-    slice-write-out-7
-    add-out-4
-    mul-out-8
-    slice-write-out-8
-    add-out-5
-    mul-out-9
-    slice-write-out-9
-    add-out-6
-    mul-out-10
-    slice-write-out-10
-    same-length
+    (λ c. search needs)
     returns-4
-    same-length-2
+    (λ c. search needs)
     returns-5
-    same-length-3
-    returns-6
-    same-length-4
-    returns-7)
+    (λ c. search needs)
+    returns-6)

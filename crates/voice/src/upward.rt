@@ -1,0 +1,116 @@
+// One packet going up. A MIDI 1.0 voice message, which most packets are, is one word: it is asked for
+// before the packet is cut out.
+use crate::RecordAndReport;
+use crate::output::onward;
+use crate::output::refuse;
+use crate::output::room;
+use channel::Record;
+use lift::UpwardMessage;
+use screen::GOES_ON;
+use stream::Done;
+use stream::NO_ROOM;
+use stream::NOT_SOUND;
+use stream::SENT;
+use stream::TAKEN_IN;
+use stream::report;
+use ump::MIDI1_VOICE;
+use ump::MIDI2_VOICE;
+ghost use mathlib.Core.Path.{_≡_};
+ghost use mathlib.Core.Bool.{false};
+ghost use mathlib.Core.List.{[], _∷_};
+ghost use Prim.Native.Nat.{_+_, _<_, _^_};
+ghost use Rattle.screen.specs.Screen.{checkVoice1, screened};
+ghost use Rattle.message.specs.Message.{read1};
+ghost use Rattle.lift.specs.Lift.{changes};
+ghost use Rattle.voice.specs.Packet.{changesAt, packetUp, speakUp, spoken};
+ghost use Rattle.voice.specs.Turn.{next, outputOf, turned};
+
+// The record stays.
+fn stays(record: Record, done: Done) -> RecordAndReport
+    ensures { λ r. ⌜ r ≡ record { after = «record»; changes = false; done = done } ⌝ }
+{
+    RecordAndReport {
+        after: record,
+        changes: false,
+        done,
+    }
+}
+
+// The record is what the message leaves.
+fn leaves(message: UpwardMessage, done: Done) -> RecordAndReport
+    ensures { λ r. ⌜ r ≡ record { after = message .after; changes = message .changes; done = done } ⌝ }
+{
+    let after = message.after;
+    RecordAndReport {
+        after,
+        changes: message.changes,
+        done,
+    }
+}
+
+// A checked message with its sound record: its two words, or none, into the output.
+fn speak(past: Done, record: Record, w: u32, out: &mut [u32]) -> RecordAndReport
+    requires { ⌜ past .read + 1 < 2 ^ 64 ⌝ }
+    ensures turn { λ r. ⌜ r ≡ turned past (w ∷ []) (now (out .entry)) «record» (changes (read1 w)) (spoken «record» w) ⌝ }
+    ensures output { λ _. ⌜ now (out .exit) ≡ outputOf past (now (out .entry)) (spoken «record» w) ⌝ }
+{
+    let message = lift::lifted(record, w);
+    let read = past.read;
+    let to = past.written;
+    if message.sends {
+        if room(out.len(), to) < 2 {
+            return stays(record, report(NO_ROOM, read, to));
+        }
+        out[to] = message.first;
+        out[to + 1] = message.second;
+        leaves(message, report(SENT, read + 1, to + 2))
+    } else {
+        leaves(message, report(TAKEN_IN, read + 1, to))
+    }
+}
+
+// A checked message with its record, which is asked to be sound.
+fn speak_up(past: Done, record: Record, w: u32, out: &mut [u32]) -> RecordAndReport
+    requires { ⌜ past .read + 1 < 2 ^ 64 ⌝ }
+    ensures turn { λ r. ⌜ r ≡ turned past (w ∷ []) (now (out .entry)) «record» (changes (read1 w)) (speakUp «record» w) ⌝ }
+    ensures output { λ _. ⌜ now (out .exit) ≡ outputOf past (now (out .entry)) (speakUp «record» w) ⌝ }
+{
+    if record.is_sound() {
+        speak(past, record, w, out)
+    } else {
+        stays(record, report(NOT_SOUND, past.read, past.written))
+    }
+}
+
+// A MIDI 1.0 voice message, by its one word.
+fn voice_up(past: Done, record: Record, w: u32, out: &mut [u32]) -> RecordAndReport
+    requires { ⌜ past .read + 1 < 2 ^ 64 ⌝ }
+    ensures turn { λ r. ⌜ r ≡ turned past (w ∷ []) (now (out .entry)) «record» (changes (read1 w))
+        (screened (checkVoice1 w) «record» (speakUp «record» w)) ⌝ }
+    ensures output { λ _. ⌜ now (out .exit) ≡ outputOf past (now (out .entry))
+        (screened (checkVoice1 w) «record» (speakUp «record» w)) ⌝ }
+{
+    let screened = screen::check_voice1(w);
+    if screened.answer == GOES_ON {
+        speak_up(past, record, w, out)
+    } else {
+        stays(record, refuse(past, screened.answer, 1))
+    }
+}
+
+// The packet that is next in the words, with its record.
+pub fn up(words: &[u32], past: Done, record: Record, out: &mut [u32]) -> RecordAndReport
+    ensures turn { λ r. ⌜ r ≡ turned past (next (now (words .entry)) past) (now (out .entry)) «record»
+        (changesAt (next (now (words .entry)) past)) (packetUp «record» (next (now (words .entry)) past)) ⌝ }
+    ensures output { λ _. ⌜ now (out .exit)
+        ≡ outputOf past (now (out .entry)) (packetUp «record» (next (now (words .entry)) past)) ⌝ }
+{
+    let at = past.read;
+    let w = ump::word_at(words, at);
+    if ump::message_type(w) == MIDI1_VOICE {
+        voice_up(past, record, w, out)
+    } else {
+        let done = onward(MIDI2_VOICE, past, ump::packet_at(words, at), out);
+        stays(record, done)
+    }
+}
