@@ -1,5 +1,5 @@
--- `scale::scaled_up` meets its contract: the shift loses no bit, since the value fits s bits, and what `filled` makes of
--- what `repeated` picked fits the places below. Assumes nothing.
+-- `scale::scaled_up` meets its contract: the shift loses no bit, since the value fits s bits, and what `filled` makes
+-- of what `repeated` picked fits the places below. Assumes nothing.
 use borrow.Author.Needs.{needs}
 use native.Mathlib.Omega.{arith}
 use Rattle.scale.proofs.Laws.{up-sum}
