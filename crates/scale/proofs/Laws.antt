@@ -77,10 +77,10 @@ fill-again m x (suc e) =
     rw (add-suc, add-mod-left, fill-again m x e, pow-suc) (omega (arith, mul-assoc (x % 2 ^ m) (2 ^ e) 2))
 
 -- one turn of the loop: a whole copy is added, and the rest has left - m places
-pub turn : (m x left e v : ℕ) → m ≤ left → left ≤ e → e < 32 → v + fill m x left ≡ fill m x e
+pub copied : (m x left e v : ℕ) → m ≤ left → left ≤ e → e < 32 → v + fill m x left ≡ fill m x e
     → (v + x % 2 ^ m * 2 ^ (left - m) % 2 ^ 32 < 2 ^ 32)
     × (v + x % 2 ^ m * 2 ^ (left - m) % 2 ^ 32 + fill m x (left - m) ≡ fill m x e)
-turn m x left e v h i j k =
+copied m x left e v h i j k =
     let a : m + (left - m) ≡ left = omega arith in
     let f : fill m x left ≡ x % 2 ^ m * 2 ^ (left - m) + fill m x (left - m) = rw a at (fill-again m x (left - m)) in
     let g : fill m x e < 2 ^ 32 = lt-trans (fill-lt m x e) (pow-lt j) in

@@ -6,7 +6,7 @@ use Prim.Native.Nat.{_+_, _≤_}
 use lib.Pow.{pow-pos}
 use mathlib.Core.Path.{_≡_}
 use Rattle.scale.specs.Scale.{fill}
-use Rattle.scale.proofs.Laws.{one-shl, turn, last}
+use Rattle.scale.proofs.Laws.{copied, last, one-shl}
 use Rattle.scale.proofs.filled.Statement.{statement}
 use Rattle.scale.proofs.filled.Tie as tie
 
@@ -20,28 +20,28 @@ add-v : tie.Need-add-v Inv-loop μ-loop
 add-v c =
     let a = c .before .before .args in
     let l = c .before .loop in
-    let t = turn (a .m) (a .x) (l .left) (a .e) (l .v) (c .loop-test .taken) (omega arith) (omega arith) (l .inv .1) in
+    let t = copied (a .m) (a .x) (l .left) (a .e) (l .v) (c .loop-test .taken) (l .inv .0) (omega arith) (l .inv .1) in
     rw (one-shl (a .m) (omega arith)) (record { fits = t .0 })
 
 loop-again : tie.Need-loop-again Inv-loop μ-loop
 loop-again c =
     let a = c .before .before .args in
     let l = c .before .loop in
-    let t = turn (a .m) (a .x) (l .left) (a .e) (l .v) (c .loop-test .taken) (omega arith) (omega arith) (l .inv .1) in
+    let t = copied (a .m) (a .x) (l .left) (a .e) (l .v) (c .loop-test .taken) (l .inv .0) (omega arith) (l .inv .1) in
     rw (one-shl (a .m) (omega arith)) (omega arith, t .1)
 
 add-result : tie.Need-add-result Inv-loop μ-loop
 add-result c =
     let a = c .before .before .args in
     let l = c .before .loop in
-    let t = last (a .m) (a .x) (l .left) (a .e) (l .v) (c .loop-test .left) (omega arith) (omega arith) (l .inv .1) in
+    let t = last (a .m) (a .x) (l .left) (a .e) (l .v) (c .loop-test .left) (l .inv .0) (omega arith) (l .inv .1) in
     rw (one-shl (a .m) (omega arith)) (record { fits = t .0 })
 
 returns : tie.Need-returns Inv-loop μ-loop
 returns c =
     let a = c .before .before .args in
     let l = c .before .loop in
-    let t = last (a .m) (a .x) (l .left) (a .e) (l .v) (c .loop-test .left) (omega arith) (omega arith) (l .inv .1) in
+    let t = last (a .m) (a .x) (l .left) (a .e) (l .v) (c .loop-test .left) (l .inv .0) (omega arith) (l .inv .1) in
     rw (one-shl (a .m) (omega arith)) (t .1)
 
 pub filled-spec : {M : Type 1} → statement M
