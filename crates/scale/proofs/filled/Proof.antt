@@ -57,7 +57,6 @@ filled-spec =
     add-v
     (λ c. search needs)
     loop-again
-    (λ c. search needs)
-    (λ c. search needs)
+    (λ c. search needs) (λ c. search needs)
     add-result
     returns)

@@ -42,11 +42,7 @@ pub line-spec : {M : Type 1} → statement M
 line-spec =
     tie.close
     (tie.spec
-    (λ c κs. search needs)
-    (λ c κs. search needs)
-    (λ c. search needs)
-    (λ c. search needs)
-    (λ c κs. search needs)
+    (λ c κs. search needs) (λ c κs. search needs) (λ c. search needs) (λ c. search needs) (λ c κs. search needs)
     put-line-requires
     (λ c. search needs)
     returns

@@ -21,7 +21,6 @@ places-spec =
     Inv-loop
     μ-loop
     (λ c. (omega arith, places-few (c .args .n) (omega arith)))
-    (λ c. omega arith)
-    (λ c. omega arith)
+    (λ c. omega arith) (λ c. omega arith)
     (λ c. (omega (arith, places-more (c .before .loop .rest) (c .loop-test .taken)), c .before .loop .inv .1))
     (λ c. let o = places-one (c .before .loop .rest) (c .loop-test .left) in (omega arith, omega arith)))

@@ -49,11 +49,7 @@ carry-spec =
     returns
     (λ c. omega arith)
     (λ c. (omega arith, refl, refl))
-    (λ c. omega arith)
-    (λ c. omega arith)
-    (λ c. omega arith)
-    (λ c. omega arith)
-    (λ c. omega arith)
+    (λ c. omega arith) (λ c. omega arith) (λ c. omega arith) (λ c. omega arith) (λ c. omega arith)
     loop-again
     (λ c. search needs)
     returns-2)

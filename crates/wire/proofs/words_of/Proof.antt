@@ -45,11 +45,7 @@ words-of-spec =
     μ-loop
     (λ c κs. search needs)
     (λ c. (omega arith, refl, refl))
-    (λ c. omega arith)
-    (λ c κs. omega arith)
-    (λ c. omega arith)
-    (λ c. omega arith)
-    (λ c. omega arith)
+    (λ c. omega arith) (λ c κs. omega arith) (λ c. omega arith) (λ c. omega arith) (λ c. omega arith)
     (λ c. omega arith)
     loop-again
     (λ c. search needs)
