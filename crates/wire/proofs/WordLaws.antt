@@ -4,9 +4,9 @@ use mathlib.Core.Path.{_≡_, refl, ap, _∙_}
 use mathlib.Core.List.{List, [], _∷_, _++_}
 use native.Mathlib.Omega.{arith}
 use native.Mathlib.Numerals.{add-one}
-use lib.ListN.{length, getD, take, drop, set, length-drop, length-take}
+use lib.ListN.{length, getD, take, set, length-drop, length-take}
 use lib.Seq.{getD-drop, getD-take, length-take-le, sets, slice, take-suc}
-use Rattle.wire.specs.Words.{bytesOf, fourBytes, word, wordFrom, wordsOf}
+use Rattle.wire.specs.Words.{bytesOf, fourBytes, wordFrom, wordsOf}
 use Rattle.wire.proofs.Stores.{getD-sets, sets-append, sets-more}
 
 pub words-length : (s : List ℕ) → length (wordsOf s) ≡ length s / 4
