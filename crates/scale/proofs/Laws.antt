@@ -1,10 +1,11 @@
 -- The laws of scaling, each once over the widths: what is filled in stays below the places filled, so that
 -- dropping them gives the value back, the wider width holds it, and order is kept. Assumes nothing.
-use mathlib.Core.Path.{_≡_, sym, _∙_, ap, subst}
+use mathlib.Core.Path.{_≡_, refl, sym, _∙_, ap, subst}
 use mathlib.Core.Bool.{Bool, true, false, cond}
 use Prim.Native.Nat.{ℕ, zero, suc, _+_, _-_, _*_, _/_, _%_, _^_, _<_, _≤_}
 use native.Mathlib.Omega.{arith}
-use native.Mathlib.Nat.{pow-suc, mod-eq-of-lt, add-suc, add-zero, add-mod-left, sub-self, div-one, mul-assoc, mod-lt, lt-trans, one-mul}
+use native.Mathlib.Nat.{pow-suc, mod-eq-of-lt, add-suc, add-zero, add-mod-left, sub-self, div-one, mul-assoc, mod-lt}
+use native.Mathlib.Nat.{lt-trans, one-mul, zero-div}
 use native.Mathlib.Numerals.{add-one}
 use lib.Dec.{leb}
 use borrow.Author.Tests.{le-leb, lt-leb}
@@ -18,6 +19,17 @@ unfolding fill
 fill-lt m x zero = omega arith
 fill-lt m x (suc e) = rw pow-suc (omega (arith, fill-lt m x e))
 
+-- filling with 0 gives 0
+pub fill-zero : (m e : ℕ) → fill m 0 e ≡ 0
+unfolding fill
+fill-zero m zero = refl
+fill-zero m (suc e) = omega (arith, fill-zero m e, zero-div (2 ^ (m - 1 - e % m)))
+
+-- so it is all one whether what is repeated is picked before the filling or after it
+fill-picked : (t : Bool) (m x e : ℕ) → fill m (cond t 0 x) e ≡ cond t 0 (fill m x e)
+fill-picked true m x e = fill-zero m e
+fill-picked false m x e = refl
+
 cond-lt : (t : Bool) (a b n : ℕ) → a < n → b < n → cond t a b < n
 cond-lt true a b n p q = p
 cond-lt false a b n p q = q
@@ -28,7 +40,8 @@ added s d x = cond (leb x (2 ^ (s - 1))) 0 (fill (s - 1) x (d - s))
 
 added-lt : (s d x : ℕ) → added s d x < 2 ^ (d - s)
 unfolding added
-added-lt s d x = cond-lt (leb x (2 ^ (s - 1))) 0 (fill (s - 1) x (d - s)) (2 ^ (d - s)) (pow-pos (d - s)) (fill-lt (s - 1) x (d - s))
+added-lt s d x =
+    cond-lt (leb x (2 ^ (s - 1))) 0 (fill (s - 1) x (d - s)) (2 ^ (d - s)) (pow-pos (d - s)) (fill-lt (s - 1) x (d - s))
 
 pub down-up : (s d x : ℕ) → down d s (up s d x) ≡ x
 unfolding up added
@@ -48,8 +61,7 @@ bits m x (suc e) h =
     let k : m - 1 - e % m ≡ m - suc e = rw (mod-eq-of-lt {n = e} {m = m} h) (omega arith) in
     let j : (m - suc e) + 1 ≡ m - e = omega arith in
     let y : x / 2 ^ (m - suc e) / 2 ≡ x / 2 ^ (m - e) = rw (← j) (shr-shr x (m - suc e) 1) in
-    let z : x / 2 ^ (m - suc e) % 2 ^ (e + 1) ≡ (x / 2 ^ (m - suc e) / 2 % 2 ^ e) * 2 + x / 2 ^ (m - suc e) % 2 = mod-pow-add (x / 2 ^ (m - suc e)) e 1 in
-    rw (k, bits m x e (omega arith), ← y) (rw add-one at (sym z))
+    rw (k, bits m x e (omega arith), ← y) (rw add-one at (sym (mod-pow-add (x / 2 ^ (m - suc e)) e 1)))
 
 -- one copy or less: the copy's highest bits
 pub fill-part : (m x e : ℕ) → e ≤ m → fill m x e ≡ x % 2 ^ m / 2 ^ (m - e)
@@ -61,17 +73,18 @@ fill-part m x e h =
 pub fill-again : (m x e : ℕ) → fill m x (m + e) ≡ x % 2 ^ m * 2 ^ e + fill m x e
 unfolding fill
 fill-again m x zero = rw (add-zero m) (fill-part m x m (omega arith) ∙ simp (sub-self, div-one) (omega arith))
-fill-again m x (suc e) = rw (add-suc, add-mod-left, fill-again m x e, pow-suc) (omega (arith, mul-assoc (x % 2 ^ m) (2 ^ e) 2))
+fill-again m x (suc e) =
+    rw (add-suc, add-mod-left, fill-again m x e, pow-suc) (omega (arith, mul-assoc (x % 2 ^ m) (2 ^ e) 2))
 
 -- one turn of the loop: a whole copy is added, and the rest has left - m places
-pub turn : (m x left e v : ℕ) → m ≤ left → left ≤ e → e < 32 → v + fill m x left ≡ fill m x e
-    → (v + x % 2 ^ m * 2 ^ (left - m) % 2 ^ 32 < 2 ^ 32) × (v + x % 2 ^ m * 2 ^ (left - m) % 2 ^ 32 + fill m x (left - m) ≡ fill m x e)
-turn m x left e v h i j k =
+pub copied : (m x left e v : ℕ) → m ≤ left → left ≤ e → e < 32 → v + fill m x left ≡ fill m x e
+    → (v + x % 2 ^ m * 2 ^ (left - m) % 2 ^ 32 < 2 ^ 32)
+    × (v + x % 2 ^ m * 2 ^ (left - m) % 2 ^ 32 + fill m x (left - m) ≡ fill m x e)
+copied m x left e v h i j k =
     let a : m + (left - m) ≡ left = omega arith in
-    let b : x % 2 ^ m * 2 ^ (left - m) % 2 ^ 32 ≡ x % 2 ^ m * 2 ^ (left - m) = shl-exact m (left - m) 32 (mod-lt x (pow-pos m)) (omega arith) in
     let f : fill m x left ≡ x % 2 ^ m * 2 ^ (left - m) + fill m x (left - m) = rw a at (fill-again m x (left - m)) in
     let g : fill m x e < 2 ^ 32 = lt-trans (fill-lt m x e) (pow-lt j) in
-    rw b (omega arith, omega arith)
+    rw (shl-exact m (left - m) 32 (mod-lt x (pow-pos m)) (omega arith)) (omega arith, omega arith)
 
 pub one-shl : (m : ℕ) → m < 32 → 1 * 2 ^ m % 2 ^ 32 ≡ 2 ^ m
 one-shl m h = shl-exact 1 m 32 (omega arith) (omega arith) ∙ one-mul (2 ^ m)
@@ -91,18 +104,16 @@ pub up-high : (s d x : ℕ) → 2 ^ (s - 1) < x → up s d x ≡ x * 2 ^ (d - s)
 unfolding up
 up-high s d x h = rw (lt-leb x (2 ^ (s - 1)) h)
 
--- the machine's shift loses no bit of a value inside its width
-pub shifted : (s d x : ℕ) → x < 2 ^ s → s ≤ d → d ≤ 32 → x * 2 ^ (d - s) % 2 ^ 32 ≡ x * 2 ^ (d - s)
-shifted s d x h i j = shl-exact s (d - s) 32 h (omega arith)
-
--- above the centre: the machine's shift, and what is filled in, are the value scaled up, and fit 32 bits
-pub up-sum : (s d x f : ℕ) → x < 2 ^ s → s ≤ d → d ≤ 32 → 2 ^ (s - 1) < x → f ≡ fill (s - 1) x (d - s)
+-- the machine's shift loses no bit of a value inside its width; with what is filled in it is the value scaled up, and
+-- fits 32 bits
+pub up-sum : (s d x c f : ℕ) → x < 2 ^ s → s ≤ d → d ≤ 32
+    → c ≡ cond (leb x (2 ^ (s - 1))) 0 x → f ≡ fill (s - 1) c (d - s)
     → (x * 2 ^ (d - s) % 2 ^ 32 + f ≡ up s d x) × (x * 2 ^ (d - s) % 2 ^ 32 + f < 2 ^ 32)
-up-sum s d x f h i j k e =
-    let p : x * 2 ^ (d - s) % 2 ^ 32 + f ≡ up s d x = rw (shifted s d x h i j, e) (sym (up-high s d x k)) in
-    let q : up s d x < 2 ^ d = up-lt s d x i h in
-    let r : 2 ^ d ≤ 2 ^ 32 = pow-mono j in
-    (p, omega arith)
+unfolding up
+up-sum s d x c f h i j e g =
+    let p : x * 2 ^ (d - s) % 2 ^ 32 + f ≡ up s d x =
+    rw (shl-exact s (d - s) 32 h (omega arith), g, e, fill-picked (leb x (2 ^ (s - 1))) (s - 1) x (d - s)) in
+    (p, omega (arith, up-lt s d x i h, pow-mono {i = d} {j = 32} j))
 
 up-zero : (s d : ℕ) → up s d 0 ≡ 0
 up-zero s d = up-low s d 0 (omega arith) ∙ omega arith
@@ -117,13 +128,14 @@ one-bit : (s k : ℕ) → k < s → (2 ^ s - 1) / 2 ^ k % 2 ≡ 1
 one-bit s k h =
     let e : (s - k - 1) + 1 + k ≡ s = omega arith in
     let o : 2 ^ s - 1 ≡ (2 ^ ((s - k - 1) + 1) - 1) * 2 ^ k + (2 ^ k - 1) = rw e at (ones-split ((s - k - 1) + 1) k) in
-    let p = ones-split (s - k - 1) 1 in
-    rw (o, high (2 ^ ((s - k - 1) + 1) - 1) k {lo = 2 ^ k - 1} (omega (arith, pow-pos k))) (omega (arith, p))
+    rw (o, high (2 ^ ((s - k - 1) + 1) - 1) k {lo = 2 ^ k - 1} (omega (arith, pow-pos k)))
+    (omega (arith, ones-split (s - k - 1) 1))
 
 fill-ones : (m e : ℕ) → 1 ≤ m → fill m (2 ^ suc m - 1) e ≡ 2 ^ e - 1
 unfolding fill
 fill-ones m zero h = omega arith
-fill-ones m (suc e) h = rw (fill-ones m e h, one-bit (suc m) (m - 1 - e % m) (omega arith), pow-suc) (omega (arith, pow-pos e))
+fill-ones m (suc e) h =
+    rw (fill-ones m e h, one-bit (suc m) (m - 1 - e % m) (omega arith), pow-suc) (omega (arith, pow-pos e))
 
 up-ones : (s d : ℕ) → 2 ≤ s → s ≤ d → up s d (2 ^ s - 1) ≡ 2 ^ d - 1
 up-ones s d h i =
@@ -142,4 +154,5 @@ up-order s d x y h =
     omega (arith, p)
 
 pub proved-core-rules : CoreRules
-proved-core-rules = record { back = down-up; fits = up-lt; minimum = up-zero; centre = up-centre; maximum = up-ones; order = up-order }
+proved-core-rules =
+    record { back = down-up; fits = up-lt; minimum = up-zero; centre = up-centre; maximum = up-ones; order = up-order }

@@ -10,7 +10,7 @@ use lib.Dec.{leb, ltb}
 use lib.ListN.{length, length-append, getD, set, take}
 use lib.Seq.{length-take-le, sets, take-suc}
 use borrow.Author.Tests.{le-leb, le-ltb, leb-false, leb-true, lt-leb, lt-ltb, ltb-false}
-use Rattle.text.specs.Lines.{decimal, digits, fields, glyph, hex, lineOf, places, placesIn}
+use Rattle.text.specs.Lines.{decimal, digits, glyph, hex, hexFields, lineOf, places, placesIn}
 use Rattle.wire.proofs.Stores.{set-sets, sets-append}
 
 pub digits-length : (b k n : ℕ) → length (digits b k n) ≡ k
@@ -26,7 +26,8 @@ places-enough zero (suc g) n p q = rw (lt-ltb n 10 (omega arith))
 places-enough (suc f) zero n p q = rw (lt-ltb n 10 (omega arith))
 places-enough (suc f) (suc g) n p q = go (ltb n 10) refl (λ h. places-enough f g (n / 10) (omega arith) (omega arith))
   where
-    go : (b : Bool) → ltb n 10 ≡ b → (10 ≤ n → placesIn f (n / 10) ≡ placesIn g (n / 10)) → cond b 1 (suc (placesIn f (n / 10))) ≡ cond b 1 (suc (placesIn g (n / 10)))
+    go : (b : Bool) → ltb n 10 ≡ b → (10 ≤ n → placesIn f (n / 10) ≡ placesIn g (n / 10))
+        → cond b 1 (suc (placesIn f (n / 10))) ≡ cond b 1 (suc (placesIn g (n / 10)))
     go true e k = refl
     go false e k = ap suc (k (ltb-false n 10 e))
 
@@ -36,7 +37,9 @@ places-one n h = places-enough n (suc n) n (omega arith) (omega arith) ∙ rw (l
 
 pub places-more : (n : ℕ) → 10 ≤ n → places n ≡ suc (places (n / 10))
 unfolding placesIn
-places-more n h = places-enough n (suc n) n (omega arith) (omega arith) ∙ rw (le-ltb n 10 h, places-enough n (n / 10) (n / 10) (omega arith) (omega arith))
+places-more n h =
+    places-enough n (suc n) n (omega arith) (omega arith)
+    ∙ rw (le-ltb n 10 h, places-enough n (n / 10) (n / 10) (omega arith) (omega arith))
 
 -- a number below ten to the k has at most k places
 few : (f k n : ℕ) → n < 10 ^ suc k → placesIn f n ≤ suc k
@@ -44,7 +47,8 @@ unfolding placesIn
 few zero k n h = omega arith
 few (suc f) k n h = go k (ltb n 10) refl h (λ j l. few f j (n / 10) l)
   where
-    go : (k : ℕ) (b : Bool) → ltb n 10 ≡ b → n < 10 ^ suc k → ((j : ℕ) → n / 10 < 10 ^ suc j → placesIn f (n / 10) ≤ suc j) → cond b 1 (suc (placesIn f (n / 10))) ≤ suc k
+    go : (k : ℕ) (b : Bool) → ltb n 10 ≡ b → n < 10 ^ suc k
+        → ((j : ℕ) → n / 10 < 10 ^ suc j → placesIn f (n / 10) ≤ suc j) → cond b 1 (suc (placesIn f (n / 10))) ≤ suc k
     go k true e h g = omega arith
     go zero false e h g = absurd (omega (arith, ltb-false n 10 e))
     go (suc j) false e h g =
@@ -56,18 +60,22 @@ pub places-few : (n : ℕ) → n < 2 ^ 64 → places n ≤ 20
 places-few n h = few n 19 n (omega arith)
 
 -- the loop that stores digits from the last: none yet
-pub none-spelled : (l : List ℕ) (n b count to : ℕ) → (n ≡ n / b ^ (count - count)) × (l ≡ sets l to (digits b (count - count) n))
+pub none-spelled : (l : List ℕ) (n b count to : ℕ)
+    → (n ≡ n / b ^ (count - count)) × (l ≡ sets l to (digits b (count - count) n))
 unfolding digits
-none-spelled l n b count to = let z : count - count ≡ 0 = omega arith in rw (z, pow-zero b) (sym (div-one n), refl)
+none-spelled l n b count to =
+    let z : count - count ≡ 0 = omega arith in
+    rw (z, pow-zero b) (sym (div-one n), refl)
 
 -- and one more digit
 pub spelled : (l : List ℕ) (n b count to i : ℕ) → 0 < i → i ≤ count
-    → set (sets l (to + i) (digits b (count - i) n)) (to + (i - 1)) (glyph (n / b ^ (count - i) % b)) ≡ sets l (to + (i - 1)) (digits b (count - (i - 1)) n)
+    → set (sets l (to + i) (digits b (count - i) n)) (to + (i - 1)) (glyph (n / b ^ (count - i) % b))
+    ≡ sets l (to + (i - 1)) (digits b (count - (i - 1)) n)
 unfolding digits
 spelled l n b count to i p q =
     let e : count - (i - 1) ≡ suc (count - i) = omega arith in
     let f : to + i ≡ suc (to + (i - 1)) = omega arith in
-    rw (e, f) (set-sets l (suc (to + (i - 1))) (to + (i - 1)) (glyph (n / b ^ (count - i) % b)) (digits b (count - i) n) (omega arith))
+    rw (e, f) (set-sets l (suc (to + (i - 1))) (to + (i - 1)) _ (digits b (count - i) n) (omega arith))
 
 pub rest-on : (n b count i : ℕ) → 0 < i → i ≤ count → n / b ^ (count - i) / b ≡ n / b ^ (count - (i - 1))
 rest-on n b count i p q =
@@ -82,29 +90,34 @@ room-for words head room h = go (leb words ((room - head) / 9)) refl
     go true e = sym (le-leb (head + 9 * words) room (omega (arith, leb-true words ((room - head) / 9) e)))
     go false e = sym (lt-leb (head + 9 * words) room (omega (arith, leb-false words ((room - head) / 9) e)))
 
-pub fields-length : (ws : List ℕ) → length (fields ws) ≡ 9 * length ws
-unfolding fields digits
+pub fields-length : (ws : List ℕ) → length (hexFields ws) ≡ 9 * length ws
+unfolding hexFields digits
 fields-length [] = refl
 fields-length (w ∷ ws) = omega (arith, fields-length ws)
 
-fields-append : (xs ys : List ℕ) → fields (xs ++ ys) ≡ fields xs ++ fields ys
-unfolding fields
+fields-append : (xs ys : List ℕ) → hexFields (xs ++ ys) ≡ hexFields xs ++ hexFields ys
+unfolding hexFields
 fields-append [] ys = refl
-fields-append (x ∷ xs) ys = ap (λ (l : List ℕ). (32 ∷ hex x) ++ l) (fields-append xs ys) ∙ sym (append-assoc (32 ∷ hex x) (fields xs) (fields ys))
+fields-append (x ∷ xs) ys = rw (fields-append xs ys) (sym (append-assoc (32 ∷ hex x) (hexFields xs) (hexFields ys)))
 
 -- the loop that stores the fields: one more word
 pub fields-more : (l ws : List ℕ) (to i : ℕ) → i < length ws
-    → sets (set (sets l to (fields (take i ws))) (to + 9 * i) 32) (to + 9 * i + 1) (hex (getD ws i 0)) ≡ sets l to (fields (take (i + 1) ws))
-unfolding fields
+    → sets (set (sets l to (hexFields (take i ws))) (to + 9 * i) 32) (to + 9 * i + 1) (hex (getD ws i 0))
+    ≡ sets l to (hexFields (take (i + 1) ws))
+unfolding hexFields
 fields-more l ws to i h =
-    let n : to + length (fields (take i ws)) ≡ to + 9 * i = omega (arith, fields-length (take i ws), length-take-le i ws (omega arith)) in
-    rw (add-one i, add-one (to + 9 * i), take-suc ws i 0 h, fields-append (take i ws) (getD ws i 0 ∷ []), append-nil (32 ∷ hex (getD ws i 0)), sets-append l to (fields (take i ws)) (32 ∷ hex (getD ws i 0)), n)
+    let f = hexFields (take i ws) in
+    let w : List ℕ = 32 ∷ hex (getD ws i 0) in
+    let n : to + length f ≡ to + 9 * i = omega (arith, fields-length (take i ws), length-take-le i ws (omega arith)) in
+    rw (add-one i, add-one (to + 9 * i), take-suc ws i 0 h, fields-append (take i ws) (getD ws i 0 ∷ []), append-nil w)
+    (rw (sets-append l to f w, n))
 
-pub line-length : (answer read : ℕ) (ws : List ℕ) → length (lineOf answer read ws) ≡ places answer + places read + 2 + 9 * length ws
+pub line-length : (answer read : ℕ) (ws : List ℕ)
+    → length (lineOf answer read ws) ≡ places answer + places read + 2 + 9 * length ws
 unfolding lineOf
 line-length answer read ws =
-    let p = length-append (decimal answer ++ (32 ∷ decimal read) ++ fields ws) (10 ∷ []) in
-    let q = length-append (decimal answer ++ (32 ∷ decimal read)) (fields ws) in
+    let p = length-append (decimal answer ++ (32 ∷ decimal read) ++ hexFields ws) (10 ∷ []) in
+    let q = length-append (decimal answer ++ (32 ∷ decimal read)) (hexFields ws) in
     let r = length-append (decimal answer) (32 ∷ decimal read) in
     omega (arith, fields-length ws, digits-length 10 (places answer) answer, digits-length 10 (places read) read)
 
@@ -114,17 +127,20 @@ line-fits answer read a b ws room t ea eb e = rw (line-length answer read ws, �
 
 -- the whole line, part by part
 pub line-stored : (l : List ℕ) (to answer read a b : ℕ) (ws : List ℕ) → a ≡ places answer → b ≡ places read
-    → set (sets (sets (set (sets l to (digits 10 a answer)) (to + a) 32) (to + a + 1) (digits 10 b read)) (to + a + 1 + b) (fields ws)) (to + a + 1 + b + 9 * length ws) 10
+    → set (sets (sets (set (sets l to (digits 10 a answer)) (to + a) 32) (to + a + 1) (digits 10 b read))
+    (to + a + 1 + b) (hexFields ws)) (to + a + 1 + b + 9 * length ws) 10
     ≡ sets l to (lineOf answer read ws)
 unfolding lineOf
 line-stored l to answer read a b ws ea eb =
     let d = decimal answer in
     let e = decimal read in
+    let f = hexFields ws in
     let m = digits-length 10 (places answer) answer in
     let n = digits-length 10 (places read) read in
     let p = length-append d (32 ∷ e) in
     let one : to + length d ≡ to + places answer = omega arith in
     let two : to + length (d ++ (32 ∷ e)) ≡ to + places answer + 1 + places read = omega arith in
-    let three : to + length (d ++ (32 ∷ e) ++ fields ws) ≡ to + places answer + 1 + places read + 9 * length ws =
-    omega (arith, length-append (d ++ (32 ∷ e)) (fields ws), fields-length ws) in
-    rw (ea, eb, sets-append l to (d ++ (32 ∷ e) ++ fields ws) (10 ∷ []), three, sets-append l to (d ++ (32 ∷ e)) (fields ws), two, sets-append l to d (32 ∷ e), one, add-one (to + places answer))
+    let three : to + length (d ++ (32 ∷ e) ++ f) ≡ to + places answer + 1 + places read + 9 * length ws =
+    omega (arith, length-append (d ++ (32 ∷ e)) f, fields-length ws) in
+    rw (ea, eb, sets-append l to (d ++ (32 ∷ e) ++ f) (10 ∷ []), three, sets-append l to (d ++ (32 ∷ e)) f, two)
+    (rw (sets-append l to d (32 ∷ e), one, add-one (to + places answer)))

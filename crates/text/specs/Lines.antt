@@ -1,40 +1,55 @@
--- A line of the listing, in ASCII (01 "Examples on each side"): "answer, words read, then each word sent as eight upper-case hex digits,
--- fields parted by one space".
-use Prim.Native.Nat.{ℕ, zero, suc, _+_, _/_, _%_, _^_}
-use mathlib.Core.Bool.{cond}
+-- RULES 10.2: a line of the listing, in ASCII. Two decimal numbers and the words in hex, with one space between them.
+use Prim.Native.Nat.{ℕ, zero, suc, _+_, _-_, _/_, _%_, _^_}
+use mathlib.Core.Bool.{Bool, cond}
 use mathlib.Core.List.{List, [], _∷_, _++_}
-use lib.Dec.{ltb}
+use lib.Dec.{leb, ltb}
+use lib.ListN.{length}
+use lib.Seq.{sets}
 
--- a digit below 16: 0 to 9, then A to F
+-- RULES 10.2: a digit below 16: 0 to 9, then A to F
 abbrev pub glyph : ℕ → ℕ
 glyph d = cond (ltb d 10) (48 + d) (55 + d)
 
--- the last k digits of n in base b, the highest first
+-- RULES 10.2: the last k digits of n in base b, the highest first
 unfoldable pub digits : ℕ → ℕ → ℕ → List ℕ
 digits b zero n = []
 digits b (suc k) n = glyph (n / b ^ k % b) ∷ digits b k n
 
--- how many decimal digits n has: one, and one more for each time that it can be divided by ten. The first number only bounds the
--- recursion, and n itself is enough.
+-- RULES 10.2: how many decimal digits n has: one, and one more for each time that it can be divided by ten. The first
+-- number only bounds the recursion, and n itself is enough.
 unfoldable pub placesIn : ℕ → ℕ → ℕ
 placesIn zero n = 1
 placesIn (suc k) n = cond (ltb n 10) 1 (suc (placesIn k (n / 10)))
 
+-- RULES 10.2: the number of decimal digits
 abbrev pub places : ℕ → ℕ
 places n = placesIn n n
 
+-- RULES 10.2: a number in decimal, with no zero before it
 abbrev pub decimal : ℕ → List ℕ
 decimal n = digits 10 (places n) n
 
--- "eight upper-case hex digits"
+-- RULES 10.2: a word in hex, always eight digits
 abbrev pub hex : ℕ → List ℕ
 hex w = digits 16 8 w
 
--- each word, with a space (32) before it
-unfoldable pub fields : List ℕ → List ℕ
-fields [] = []
-fields (w ∷ ws) = (32 ∷ hex w) ++ fields ws
+-- RULES 10.2: each word, with a space (32) before it
+unfoldable pub hexFields : List ℕ → List ℕ
+hexFields [] = []
+hexFields (w ∷ ws) = (32 ∷ hex w) ++ hexFields ws
 
--- the whole line, with the end of the line (10)
+-- RULES 10.2: the whole line, with the end of the line (10)
 unfoldable pub lineOf : ℕ → ℕ → List ℕ → List ℕ
-lineOf answer read ws = decimal answer ++ (32 ∷ decimal read) ++ fields ws ++ (10 ∷ [])
+lineOf answer read ws = decimal answer ++ (32 ∷ decimal read) ++ hexFields ws ++ (10 ∷ [])
+
+-- RULES 10.2: whether a row fits into a buffer from a place on
+abbrev pub fitsFrom : List ℕ → ℕ → List ℕ → Bool
+fitsFrom buffer to row = leb (length row) (length buffer - to)
+
+-- RULES 10.2: the place after a row that is put at a place, or the place itself where the row does not fit
+abbrev pub placeAfter : List ℕ → ℕ → List ℕ → ℕ
+placeAfter buffer to row = cond (fitsFrom buffer to row) (to + length row) to
+
+-- RULES 10.2: the buffer with a row put at a place, or as it was where the row does not fit
+abbrev pub withRow : List ℕ → ℕ → List ℕ → List ℕ
+withRow buffer to row = cond (fitsFrom buffer to row) (sets buffer to row) buffer

@@ -3,28 +3,36 @@
 // `line` has no `requires`. It says what it answers and what the lent buffer holds after it, on every
 // input: a line that does not fit is not begun.
 ghost use mathlib.Core.Path.{_≡_};
-ghost use mathlib.Core.Bool.{cond};
 ghost use Prim.Native.Nat.{_+_, _*_, _-_, _<_, _≤_};
 ghost use lib.Dec.{leb};
 ghost use lib.ListN.{length};
 ghost use lib.Seq.{sets};
-ghost use Rattle.text.specs.Lines.{digits, fields, lineOf};
+ghost use Rattle.text.specs.Lines.{digits, hexFields, lineOf, placeAfter, withRow};
 ghost use Rattle.text.specs.Lines;
 
-const SPACE: u8 = 32;
+const SPACE: u8 = b' ';
 
-const NEWLINE: u8 = 10;
+const NEWLINE: u8 = b'\n';
 
+// What a digit from ten on is added to: ten is A.
+const LETTER: u8 = b'A' - 10;
+
+// The character of a digit below sixteen.
 fn glyph(d: u64) -> u8
     requires { ⌜ d < 16 ⌝ }
     ensures { λ r. ⌜ r ≡ Lines.glyph d ⌝ }
 {
-    if d < 10 { 48 + d as u8 } else { 55 + d as u8 }
+    if d < 10 {
+        b'0' + d as u8
+    } else {
+        LETTER + d as u8
+    }
 }
 
 // How many decimal digits a number has.
 fn places(n: u64) -> usize
-    ensures { λ r. ⌜ (r ≡ Lines.places n) × (r ≤ 20) ⌝ }
+    ensures count { λ r. ⌜ r ≡ Lines.places n ⌝ }
+    ensures few { λ r. ⌜ r ≤ 20 ⌝ }
 {
     let mut k: usize = 1;
     let mut rest = n;
@@ -50,10 +58,10 @@ fn spell(n: u64, base: u64, count: usize, out: &mut [u8], to: usize)
 }
 
 // Stores each word after a space, and answers the place after the last.
-fn put_fields(words: &[u32], out: &mut [u8], to: usize) -> usize
+fn put_hex_fields(words: &[u32], out: &mut [u8], to: usize) -> usize
     requires { ⌜ to + 9 * length (now words) ≤ length (now out) ⌝ }
-    ensures { λ r. ⌜ (r ≡ to + 9 * length (now (words .entry)))
-        × (now (out .exit) ≡ sets (now (out .entry)) to (fields (now (words .entry)))) ⌝ }
+    ensures place { λ r. ⌜ r ≡ to + 9 * length (now (words .entry)) ⌝ }
+    ensures text { λ _. ⌜ now (out .exit) ≡ sets (now (out .entry)) to (hexFields (now (words .entry))) ⌝ }
 {
     let mut at = to;
     let mut i = 0;
@@ -91,14 +99,15 @@ fn put_line(
     out: &mut [u8],
     to: usize,
 ) -> usize
-    requires { ⌜ (a ≡ Lines.places answer) × (b ≡ Lines.places read) × (to + (a + b + 2 + 9 * length (now words)) ≤ length (now out)) ⌝ }
-    ensures { λ r. ⌜ (r ≡ to + length (lineOf answer read (now (words .entry))))
-        × (now (out .exit) ≡ sets (now (out .entry)) to (lineOf answer read (now (words .entry)))) ⌝ }
+    requires { ⌜ (a ≡ Lines.places answer) × (b ≡ Lines.places read)
+        × (to + (a + b + 2 + 9 * length (now words)) ≤ length (now out)) ⌝ }
+    ensures place { λ r. ⌜ r ≡ to + length (lineOf answer read (now (words .entry))) ⌝ }
+    ensures text { λ _. ⌜ now (out .exit) ≡ sets (now (out .entry)) to (lineOf answer read (now (words .entry))) ⌝ }
 {
     spell(answer as u64, 10, a, out, to);
     out[to + a] = SPACE;
     spell(read as u64, 10, b, out, to + a + 1);
-    let end = put_fields(words, out, to + a + 1 + b);
+    let end = put_hex_fields(words, out, to + a + 1 + b);
     out[end] = NEWLINE;
     end + 1
 }
@@ -106,8 +115,8 @@ fn put_line(
 // Writes the line of a call from a place on and answers the place after it, or, where it does not
 // fit, writes nothing and answers the place.
 pub fn line(answer: u32, read: usize, words: &[u32], out: &mut [u8], to: usize) -> usize
-    ensures { λ r. ⌜ (r ≡ cond (leb (length (lineOf answer read (now (words .entry)))) (length (now (out .entry)) - to)) (to + length (lineOf answer read (now (words .entry)))) to)
-        × (now (out .exit) ≡ cond (leb (length (lineOf answer read (now (words .entry)))) (length (now (out .entry)) - to)) (sets (now (out .entry)) to (lineOf answer read (now (words .entry)))) (now (out .entry))) ⌝ }
+    ensures place { λ r. ⌜ r ≡ placeAfter (now (out .entry)) to (lineOf answer read (now (words .entry))) ⌝ }
+    ensures text { λ _. ⌜ now (out .exit) ≡ withRow (now (out .entry)) to (lineOf answer read (now (words .entry))) ⌝ }
 {
     let a = places(answer as u64);
     let b = places(read as u64);

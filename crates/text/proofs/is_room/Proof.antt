@@ -1,4 +1,5 @@
--- `text::is_room` meets its contract: no room at all, none for the head, or as many words as the rest has room for. Assumes nothing.
+-- `text::is_room` meets its contract: no room at all, none for the head, or as many words as the rest has room for.
+-- Assumes nothing.
 use Prim.Native.Nat.{_+_, _*_, _-_}
 use mathlib.Core.Path.{sym}
 use native.Mathlib.Omega.{arith}

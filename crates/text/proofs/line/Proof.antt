@@ -14,32 +14,35 @@ put-line-requires c κs =
     let a = c .before .before .before .before .before .before .before .args in
     let p = c .before .before .before .before .places in
     let q = c .before .before .before .places2 in
-    let h = leb-true (p .result + q .result + 2 + 9 * length (a .words .now)) (length (a .out .now) - a .to) (sym (c .before .before .is-room .ensures) ∙ c .before .if1 .taken) in
-    (p .ensures .0, q .ensures .0, omega (arith, h))
+    let e = sym (c .before .before .is-room .ensures) ∙ c .before .if1 .taken in
+    let n = p .result + q .result + 2 + 9 * length (a .words .now) in
+    (p .ensures .0, q .ensures .0, omega (arith, leb-true n (length (a .out .now) - a .to) e))
 
 returns : tie.Need-returns
 returns c =
-    let a = c .before .before .before .before .before .before .before .before .before .before .args in
     let d = c .before .before .before .before .before in
-    let e = line-fits (a .answer) (a .read) _ _ (a .words .now) (length (a .out .now) - a .to) _ (d .before .before .places .ensures .0) (d .before .places2 .ensures .0) (sym (c .before .before .before .before .if1 .taken) ∙ d .is-room .ensures) in
-    rw e (c .before .before .put-line .ensures)
+    let a = d .before .before .before .before .before .args in
+    let room = length (a .out .now) - a .to in
+    let p = d .before .before .places .ensures .0 in
+    let q = d .before .places2 .ensures .0 in
+    let e = sym (c .before .before .before .before .if1 .taken) ∙ d .is-room .ensures in
+    rw (line-fits (a .answer) (a .read) _ _ (a .words .now) room _ p q e) (c .before .before .put-line .ensures)
 
 returns-2 : tie.Need-returns-2
 returns-2 c =
-    let a = c .before .before .before .before .before .before .args in
     let d = c .before in
-    let e = line-fits (a .answer) (a .read) _ _ (a .words .now) (length (a .out .now) - a .to) _ (d .before .before .places .ensures .0) (d .before .places2 .ensures .0) (sym (c .if1 .left) ∙ d .is-room .ensures) in
-    rw e (refl, refl)
+    let a = d .before .before .before .before .before .args in
+    let room = length (a .out .now) - a .to in
+    let p = d .before .before .places .ensures .0 in
+    let q = d .before .places2 .ensures .0 in
+    let e = sym (c .if1 .left) ∙ d .is-room .ensures in
+    rw (line-fits (a .answer) (a .read) _ _ (a .words .now) room _ p q e) (refl, refl)
 
 pub line-spec : {M : Type 1} → statement M
 line-spec =
     tie.close
     (tie.spec
-    (λ c κs. search needs)
-    (λ c κs. search needs)
-    (λ c. search needs)
-    (λ c. search needs)
-    (λ c κs. search needs)
+    (λ c κs. search needs) (λ c κs. search needs) (λ c. search needs) (λ c. search needs) (λ c κs. search needs)
     put-line-requires
     (λ c. search needs)
     returns

@@ -1,5 +1,5 @@
--- `text::places` meets its contract. The loop's invariant: the places counted and those of what is left are the number's, and one
--- more. The measure is what is left. Assumes nothing.
+-- `text::places` meets its contract. The loop's invariant: the places counted and those of what is left are the
+-- number's, and one more. The measure is what is left. Assumes nothing.
 use Prim.Native.Nat.{_+_, _≤_}
 use mathlib.Core.Path.{_≡_}
 use native.Mathlib.Omega.{arith}
@@ -21,7 +21,6 @@ places-spec =
     Inv-loop
     μ-loop
     (λ c. (omega arith, places-few (c .args .n) (omega arith)))
-    (λ c. omega arith)
-    (λ c. omega arith)
+    (λ c. omega arith) (λ c. omega arith)
     (λ c. (omega (arith, places-more (c .before .loop .rest) (c .loop-test .taken)), c .before .loop .inv .1))
-    (λ c. (omega (arith, places-one (c .before .loop .rest) (c .loop-test .left)), omega (arith, places-one (c .before .loop .rest) (c .loop-test .left)))))
+    (λ c. let o = places-one (c .before .loop .rest) (c .loop-test .left) in (omega arith, omega arith)))

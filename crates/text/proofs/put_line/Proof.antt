@@ -6,45 +6,47 @@ use Rattle.text.proofs.LineLaws.{line-length, line-stored}
 use Rattle.text.proofs.put_line.Statement.{statement}
 use Rattle.text.proofs.put_line.Tie as tie
 
-put-fields-requires : tie.Need-put-fields-requires
-put-fields-requires c κs =
+put-hex-fields-requires : tie.Need-put-hex-fields-requires
+put-hex-fields-requires c κs =
     let p = simp length-set at (c .before .before .before .spell2 .kept .1 .1 .1 .0) in
     omega (arith, p, c .before .before .before .before .before .before .before .spell .kept .1 .1 .1 .0)
 
 slice-write-out : tie.Need-slice-write-out-2
 slice-write-out c =
-    let p = simp length-set at (c .before .before .before .before .before .before .spell2 .kept .1 .1 .1 .0) in
-    omega (arith, p, c .before .before .put-fields .ensures .0, c .before .before .put-fields .kept .1 .0, c .before .before .before .before .before .before .before .before .before .before .spell .kept .1 .1 .1 .0)
+    let d = c .before .before in
+    let e = d .before .before .before .before in
+    let p = simp length-set at (e .spell2 .kept .1 .1 .1 .0) in
+    let q = e .before .before .before .before .spell .kept .1 .1 .1 .0 in
+    omega (arith, p, q, d .put-hex-fields .ensures .0, d .put-hex-fields .kept .1 .0)
 
 same-length : tie.Need-same-length
 same-length c =
-    let p = simp length-set at (c .before .before .before .before .before .before .spell2 .kept .1 .1 .1 .0) in
-    simp length-set (omega (arith, p, c .before .before .put-fields .kept .1 .0, c .before .before .before .before .before .before .before .before .before .before .spell .kept .1 .1 .1 .0))
+    let d = c .before .before in
+    let e = d .before .before .before .before in
+    let p = simp length-set at (e .spell2 .kept .1 .1 .1 .0) in
+    let q = e .before .before .before .before .spell .kept .1 .1 .1 .0 in
+    simp length-set (omega (arith, p, q, d .put-hex-fields .kept .1 .0))
 
 returns : tie.Need-returns
 returns c =
-    let s = c .before .before .before .before .before .before .before .before .before .before .before .before .before .before in
-    let f = c .before .before .put-fields .ensures in
+    let f = c .before .before .put-hex-fields .ensures in
+    let e = c .before .before .before .before .before .before in
+    let d = e .before .before .before .before in
+    let s = d .before .before .before .before in
     let a = s .args in (
       omega (arith, f .0, s .pre .0, s .pre .1, line-length (a .answer) (a .read) (a .words .now)),
-      rw (f .1, f .0, c .before .before .before .before .before .before .spell2 .ensures, c .before .before .before .before .before .before .before .before .before .before .spell .ensures)
-          (line-stored (a .out .now) (a .to) (a .answer) (a .read) (a .a) (a .b) (a .words .now) (s .pre .0) (s .pre .1)),
+      rw (f .1, f .0, e .spell2 .ensures, d .spell .ensures)
+          (line-stored (a .out .now) (a .to) (a .answer) (a .read) _ _ (a .words .now) (s .pre .0) (s .pre .1)),
     )
 
 pub put-line-spec : {M : Type 1} → statement M
 put-line-spec =
     tie.close
     (tie.spec
-    (λ c κs. search needs)
-    (λ c. search needs)
-    (λ c. search needs)
-    (λ c. search needs)
-    (λ c. search needs)
+    (λ c κs. search needs) (λ c. search needs) (λ c. search needs) (λ c. search needs) (λ c. search needs)
     (λ c κs. (omega arith, omega arith, simp length-set (omega arith)))
-    (λ c. search needs)
-    (λ c. search needs)
-    (λ c. search needs)
-    put-fields-requires
+    (λ c. search needs) (λ c. search needs) (λ c. search needs)
+    put-hex-fields-requires
     slice-write-out
     (λ c. search needs)
     same-length

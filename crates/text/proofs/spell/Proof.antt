@@ -1,5 +1,5 @@
--- `text::spell` meets its contract. The loop's invariant: the last digits are stored, and what is left of the number is what stands
--- before them. The measure is the digits left. Assumes nothing.
+-- `text::spell` meets its contract. The loop's invariant: the last digits are stored, and what is left of the number is
+-- what stands before them. The measure is the digits left. Assumes nothing.
 use Prim.Native.Nat.{_+_, _-_, _/_, _^_, _≤_}
 use mathlib.Core.Path.{_≡_, refl}
 use native.Mathlib.Omega.{arith}
@@ -14,7 +14,8 @@ use Rattle.text.proofs.spell.Tie as tie
 
 abbrev Inv-loop : tie.InvT-loop
 Inv-loop n base count out₀ to rest₀ i₀ out rest i =
-    (i ≤ count) × (length out ≡ length out₀) × (rest ≡ n / base ^ (count - i)) × (out ≡ sets out₀ (to + i) (digits base (count - i) n))
+    (i ≤ count) × (length out ≡ length out₀)
+    × (rest ≡ n / base ^ (count - i)) × (out ≡ sets out₀ (to + i) (digits base (count - i) n))
 
 abbrev μ-loop : tie.MeasureT-loop
 μ-loop n base count out₀ to rest₀ i₀ out rest i = i
@@ -25,39 +26,17 @@ loop-holds c =
     let s = none-spelled (a .out .now) (a .n) (a .base) (a .count) (a .to + a .count) in
     (omega arith, refl, s .0, s .1)
 
-sub-i : tie.Need-sub-i Inv-loop μ-loop
-sub-i c = search needs
-
-rem-glyph : tie.Need-rem-glyph Inv-loop μ-loop
-rem-glyph c = search needs
-
-glyph-requires : tie.Need-glyph-requires Inv-loop μ-loop
-glyph-requires c κs = omega (arith, mod-lt (c .before .loop .rest) {m = c .before .before .before .args .base} (omega arith))
-
-add-out : tie.Need-add-out Inv-loop μ-loop
-add-out c = search needs
-
-slice-write-out : tie.Need-slice-write-out Inv-loop μ-loop
-slice-write-out c = search needs
-
-div-rest : tie.Need-div-rest Inv-loop μ-loop
-div-rest c = search needs
-
-loop-less : tie.Need-loop-less Inv-loop μ-loop
-loop-less c = search needs
-
 loop-again : tie.Need-loop-again Inv-loop μ-loop
 loop-again c =
     let a = c .before .before .before .before .args in
-    let l = c .before .before .loop in (
+    let l = c .before .before .loop in
+    let t = c .before .loop-test .taken in (
       omega arith,
       search needs,
-      rw (l .inv .2) (rest-on (a .n) (a .base) (a .count) (l .i) (c .before .loop-test .taken) (l .inv .0)),
-      rw (c .glyph .ensures, l .inv .2, l .inv .3) (spelled (a .out .now) (a .n) (a .base) (a .count) (a .to) (l .i) (c .before .loop-test .taken) (l .inv .0)),
+      rw (l .inv .2) (rest-on (a .n) (a .base) (a .count) (l .i) t (l .inv .0)),
+      rw (c .glyph .ensures, l .inv .2, l .inv .3)
+          (spelled (a .out .now) (a .n) (a .base) (a .count) (a .to) (l .i) t (l .inv .0)),
     )
-
-same-length : tie.Need-same-length Inv-loop μ-loop
-same-length c = search needs
 
 returns : tie.Need-returns Inv-loop μ-loop
 returns c =
@@ -75,13 +54,9 @@ spell-spec =
     Inv-loop
     μ-loop
     loop-holds
-    sub-i
-    rem-glyph
-    glyph-requires
-    add-out
-    slice-write-out
-    div-rest
-    loop-less
+    (λ c. search needs) (λ c. search needs)
+    (λ c κs. omega (arith, mod-lt (c .before .loop .rest) {m = c .before .before .before .args .base} (omega arith)))
+    (λ c. search needs) (λ c. search needs) (λ c. search needs) (λ c. search needs)
     loop-again
-    same-length
+    (λ c. search needs)
     returns)

@@ -1,5 +1,5 @@
--- `wire::bytes_of` meets its contract. The loop's invariant: the bytes of the words passed are stored. The measure is the words left.
--- Assumes nothing.
+-- `wire::bytes_of` meets its contract. The loop's invariant: the bytes of the words passed are stored. The measure is
+-- the words left. Assumes nothing.
 use Prim.Native.Nat.{_-_, _/_, _≤_}
 use mathlib.Core.Path.{_≡_, refl}
 use native.Mathlib.Omega.{arith}
@@ -29,16 +29,18 @@ loop-again c =
     let l = c .before .before .before .before .before .before .loop in (
       omega arith,
       search needs,
-      rw (c .before .before .put-word .ensures, l .inv .2) (bytes-more (a .bytes .now) (a .words .now) (l .i) (omega arith)),
+      rw (c .before .before .put-word .ensures, l .inv .2)
+          (bytes-more (a .bytes .now) (a .words .now) (l .i) (omega arith)),
     )
 
 returns : tie.Need-returns Inv-loop μ-loop
 returns c =
     let a = c .before .before .before .before .before .args in
     let l = c .before .loop in
-    let m = length-take (length (a .bytes .now) / 4) (a .words .now) in (
-      omega (arith, bytes-length (take (length (a .bytes .now) / 4) (a .words .now))),
-      rw (take-least (length (a .bytes .now) / 4) (l .i) (a .words .now) (omega arith)) at (l .inv .2),
+    let room = length (a .bytes .now) / 4 in
+    let m = length-take room (a .words .now) in (
+      omega (arith, bytes-length (take room (a .words .now))),
+      rw (take-least room (l .i) (a .words .now) (omega arith)) at (l .inv .2),
     )
 
 pub bytes-of-spec : {M : Type 1} → statement M
@@ -49,13 +51,8 @@ bytes-of-spec =
     μ-loop
     (λ c κs. search needs)
     loop-holds
-    (λ c. omega arith)
-    (λ c. omega arith)
-    (λ c. omega arith)
-    (λ c κs. omega arith)
-    (λ c. omega arith)
+    (λ c. omega arith) (λ c. omega arith) (λ c. omega arith) (λ c κs. omega arith) (λ c. omega arith)
     (λ c. omega arith)
     loop-again
-    (λ c. omega arith)
-    (λ c. search needs)
+    (λ c. omega arith) (λ c. search needs)
     returns)

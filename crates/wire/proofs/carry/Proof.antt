@@ -1,5 +1,5 @@
--- `wire::carry` meets its contract. The loop's invariant: the bytes passed stand at the front, and nothing behind them was stored
--- over. The measure is the bytes left. Assumes nothing.
+-- `wire::carry` meets its contract. The loop's invariant: the bytes passed stand at the front, and nothing behind them
+-- was stored over. The measure is the bytes left. Assumes nothing.
 use Prim.Native.Nat.{_-_, _≤_}
 use mathlib.Core.Path.{_≡_, refl}
 use native.Mathlib.Omega.{arith}
@@ -20,8 +20,8 @@ abbrev μ-loop : tie.MeasureT-loop
 returns : tie.Need-returns Inv-loop μ-loop
 returns c =
     let a = c .before .before .before .args in
-    let e = drop-of-length-le (take (a .end) (a .bytes .now)) {i = a .from} (omega (arith, length-take (a .end) (a .bytes .now))) in
-    rw e (refl, refl)
+    let t = take (a .end) (a .bytes .now) in
+    rw (drop-of-length-le t {i = a .from} (omega (arith, length-take (a .end) (a .bytes .now)))) (refl, refl)
 
 loop-again : tie.Need-loop-again Inv-loop μ-loop
 loop-again c =
@@ -49,11 +49,7 @@ carry-spec =
     returns
     (λ c. omega arith)
     (λ c. (omega arith, refl, refl))
-    (λ c. omega arith)
-    (λ c. omega arith)
-    (λ c. omega arith)
-    (λ c. omega arith)
-    (λ c. omega arith)
+    (λ c. omega arith) (λ c. omega arith) (λ c. omega arith) (λ c. omega arith) (λ c. omega arith)
     loop-again
     (λ c. search needs)
     returns-2)
