@@ -36,8 +36,8 @@ pub record ByPackets {T : Type 0} (step : T → List ℕ → Call T) : Type 0 wh
   pub in-two : (t : T) (ps : List (List ℕ)) (s : List ℕ) → All Whole ps
       → run step t (cut (joined ps ++ s)) ≡ andThen (run step t (cut (joined ps))) (λ u. run step u (cut s))
 
--- So no run treats its first packet alone and steps over the others, and none makes up how much it read or wrote: a run up
--- and a run down are their calls, with the table and the room handed on from each to the next.
+-- So no run treats its first packet alone and steps over the others, and none makes up how much it read or wrote: a run
+-- up and a run down are their calls, with the table and the room handed on from each to the next.
 pub record PacketByPacket : Type 0 where
   pub up : ByPackets (within tableUp)
   pub down : ByPackets (within callDown)

@@ -74,11 +74,12 @@ pub record ByAnswer {T : Type 0} (t : ℕ × T) (s : List ℕ) (c : Call (ℕ ×
 
 -- Demand 1: each number is answered exactly in its listed case.
 pub record Refusals : Type 0 where
-  pub up : (room : ℕ) (t : List Record) (s : List ℕ) → answerOf (within tableUp (room, t) s) ≡ numbered (casesUp room t s)
+  pub up : (room : ℕ) (t : List Record) (s : List ℕ)
+      → answerOf (within tableUp (room, t) s) ≡ numbered (casesUp room t s)
   pub down : (room : ℕ) (s : List ℕ) → answerOf (within callDown (room, tt) s) ≡ numbered (casesDown room s)
   pub after-up : (room : ℕ) (t : List Record) (s : List ℕ) → ByAnswer (room, t) s (within tableUp (room, t) s)
   pub after-down : (room : ℕ) (s : List ℕ) → ByAnswer (room, tt) s (within callDown (room, tt) s)
-  -- no record but the packet's own may differ, and no record is lost
+  -- every other record stays, and the table keeps its length
   pub records : (room : ℕ) (t : List Record) (s : List ℕ) (k : ℕ) → (k ≡ placeOf (first s) → ⊥)
       → getD (leftOf (room, t) (within tableUp (room, t) s) .1) k empty ≡ getD t k empty
   pub table : (room : ℕ) (t : List Record) (s : List ℕ)

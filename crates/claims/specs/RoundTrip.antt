@@ -19,15 +19,15 @@ use Rattle.lower.specs.Lower.{lower}
 use Rattle.voice.specs.Packet.{runDown}
 use Rattle.table.specs.Table.{SoundTable, runBy, runUp, tableUp}
 
--- A table to start from: a whole one, of sound records, and none has a bank that the next program change would take along. An
--- address may stand in it, and so may half a bank.
+-- A table to start from: a whole one, of sound records, and none has a bank that the next program change would take along.
+-- An address may stand in it, and so may half a bank.
 pub record Blank (t : List Record) : Type 0 where
   pub whole : length t ≡ wholeTable
   pub sounds : SoundTable t
   pub bankless : (k : ℕ) → banked2 (getD t k empty) ≡ noBank
 
--- Any stream, up from the table t, down, and up again from the table t, each in an output with room for all: the second stream
--- of MIDI 2.0 words is the first. Packets may be refused on the way, and the last may be cut.
+-- Any stream, up from the table t, down, and up again from the table t, each in an output with room for all: the second
+-- stream of MIDI 2.0 words is the first. Packets may be refused on the way, and the last may be cut.
 abbrev pub Returns : (ℕ → List Record → List ℕ → Ran (ℕ × List Record)) → List Record → Type 0
 Returns up t =
     (s : List ℕ) (a b c : ℕ) →
@@ -41,15 +41,16 @@ pub record RoundTrip : Type 0 where
   pub blank : (t : List Record) → Blank t → Returns runUp t
   pub at-fresh : Returns runUp fresh
 
--- A step up with a rule about which packets may pass, read off the packet that stands first. What passes goes up as before.
--- What does not is refused: nothing is sent, and the table stays.
+-- A step up with a rule about which packets may pass, read off the packet that stands first. What passes goes up as
+-- before. What does not is refused: nothing is sent, and the table stays.
 pub record Gated (passes : List ℕ → Bool) (step : List Record → List ℕ → Call (List Record)) : Type 0 where
-  pub as-before : (t : List Record) (s : List ℕ) → length t ≡ wholeTable → passes (packet s) ≡ true → step t s ≡ tableUp t s
+  pub as-before : (t : List Record) (s : List ℕ) → length t ≡ wholeTable → passes (packet s) ≡ true
+      → step t s ≡ tableUp t s
   pub held : (t : List Record) (s : List ℕ) → length t ≡ wholeTable → passes (packet s) ≡ false
       → (sentOf (step t s) ≡ []) × (leftOf t (step t s) ≡ t)
 
--- What passes still passes after going up and down: if p passes, and with some record sends x up, then so does each message
--- that x is going down. (A packet that is sent on unchanged comes back as itself.)
+-- What passes still passes after going up and down: if p passes, and with some record sends x up, then so does each
+-- message that x is going down. (A packet that is sent on unchanged comes back as itself.)
 abbrev pub StillPasses : (List ℕ → Bool) → Type 0
 StillPasses passes =
     (p : List ℕ) (r : Record) (x : Midi2) →
