@@ -28,7 +28,8 @@ module _ (t : List Record) (y : Blank t) where
         own = λ s. ap downward (back s .0);
         taken = λ s. back s .1;
         ends = λ s.
-            taken-ends tableUp (up-stops (λ (a : ℕ). 2 ≤ a) (omega arith) (omega arith) (omega arith)) (cut (normal t s)) t (back s .1);
+            taken-ends tableUp (up-stops (λ (a : ℕ). 2 ≤ a) (omega arith) (omega arith) (omega arith))
+            (cut (normal t s)) t (back s .1);
       }
 
 pub proved-normal-form : NormalForm

@@ -26,9 +26,11 @@ abbrev NotSent : ℕ → Type 0
 NotSent a = a ≡ sent → ⊥
 
 -- of any step that never stops with the answer of a run that came to its end
-module _ {T : Type 0} (step : T → List ℕ → Call T) (stops : (t : T) (p : List ℕ) → Does (λ _. Unit {0}) NotSent (step t p)) where
+module _ {T : Type 0} (step : T → List ℕ → Call T)
+    (stops : (t : T) (p : List ℕ) → Does (λ _. Unit {0}) NotSent (step t p)) where
   words-length : (ms : List (Made T))
-      → length (joined (map (λ (m : Made T). sentOf (m .call)) ms)) ≡ sum (map (λ (m : Made T). length (sentOf (m .call))) ms)
+      → length (joined (map (λ (m : Made T). sentOf (m .call)) ms))
+      ≡ sum (map (λ (m : Made T). length (sentOf (m .call))) ms)
   words-length [] = refl
   words-length (m ∷ ms) = length-append (sentOf (m .call)) _ ∙ ap (_+_ (length (sentOf (m .call)))) (words-length ms)
 
@@ -45,8 +47,8 @@ module _ {T : Type 0} (step : T → List ℕ → Call T) (stops : (t : T) (p : L
         goes-on = λ t u p ps a ws e. rw e;
         stops = λ t p ps a e. rw e;
         words = run-words;
-        reads = by-calls step _+_ 0 (λ (m : Made T). readOf (m .packet) (m .call)) (λ (r : Ran T). r .read) (λ t. refl) (λ p t a. refl)
-            (λ p t a ws u rest. refl);
+        reads = by-calls step _+_ 0 (λ (m : Made T). readOf (m .packet) (m .call)) (λ (r : Ran T). r .read)
+            (λ t. refl) (λ p t a. refl) (λ p t a ws u rest. refl);
         writes = λ t ps. ap length (run-words t ps) ∙ words-length (calls step t ps);
         in-two = λ t ps s h. rw (cut-joined ps s h, cut-all ps h) (run-append step stops ps (cut s) t);
       }
@@ -66,10 +68,12 @@ stays-whole : (ps : List (List ℕ)) (room : ℕ) (t : List Record) → length t
     → length (run (within tableUp) (room, t) ps .left .1) ≡ wholeTable
 stays-whole ps room t h =
     run-does (within tableUp) (λ (u : ℕ × List Record). length (u .1) ≡ wholeTable) (λ _. Unit {0}) tt
-    (λ u p k. within-does tableUp (λ (v : List Record). length v ≡ wholeTable) (λ _. Unit {0}) tt u p (rw k at (up-length (u .1) p)))
+    (λ u p k. within-does tableUp (λ (v : List Record). length v ≡ wholeTable) (λ _. Unit {0}) tt u p
+    (rw k at (up-length (u .1) p)))
     ps (room, t) h .0
 
-run-up : (room : ℕ) (t : List Record) (s : List ℕ) → length t ≡ wholeTable → runUp room t s ≡ run (within tableUp) (room, t) (cut s)
+run-up : (room : ℕ) (t : List Record) (s : List ℕ) → length t ≡ wholeTable
+    → runUp room t s ≡ run (within tableUp) (room, t) (cut s)
 unfolding runUp
 run-up room t s h = rw (eq-eqb (length t) wholeTable h)
 
@@ -85,8 +89,12 @@ up-in-two room t ps s h =
     (λ e.
     let l = eqb-true (length t) wholeTable e in
     let r = run (within tableUp) (room, t) (cut (joined ps)) in
-    rw (run-up room t (joined ps ++ s) l, run-up room t (joined ps) l,
-    run-up (r .left .0) (r .left .1) s (stays-whole (cut (joined ps)) room t l)) (up-by-packets .in-two (room, t) ps s h))
+    rw (
+      run-up room t (joined ps ++ s) l,
+      run-up room t (joined ps) l,
+      run-up (r .left .0) (r .left .1) s (stays-whole (cut (joined ps)) room t l),
+    )
+    (up-by-packets .in-two (room, t) ps s h))
     (λ e. let no-whole = eqb-false (length t) wholeTable e in
     rw (no-table room t (joined ps ++ s) no-whole, no-table room t (joined ps) no-whole))
 

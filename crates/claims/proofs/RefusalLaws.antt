@@ -10,11 +10,11 @@ use lib.Dec.{eqb, eqb·suc-zero, leb, leb·zero, ltb}
 use borrow.Author.Tests.{le-ltb, leb-false, leb-true, lt-ltb, ne-eqb}
 use Rattle.ground.proofs.Cases.{by-bool, choose, not-both}
 use Rattle.ump.specs.Word.{channelOf, groupOf, messageType, placeOf, voice1, voice2}
-use Rattle.ump.specs.Packet.{first, packet, second, size}
+use Rattle.ump.specs.Packet.{first, packet, second}
 use Rattle.ump.proofs.PacketLaws.{packet-four}
 use Rattle.stream.specs.Answers.{badData, badStatus, cutPacket, noForm, noRoom, noTable, notSound, reservedType, sent}
 use Rattle.stream.specs.Answers.{stopsRun, takenIn, wrongProtocol}
-use Rattle.stream.specs.Call.{Call, answerOf, fit, leftOf, refused, sentOf, stopped, went, within}
+use Rattle.stream.specs.Call.{Call, answerOf, fit, leftOf, refused, sentOf, went, within}
 use Rattle.stream.proofs.CallLaws.{refusal, refused-fits}
 use Rattle.stream.proofs.RunLaws.{does-left, within-does}
 use Rattle.screen.specs.Check.{checkedFields, goodFields, goodStatus}
@@ -33,16 +33,19 @@ use Rattle.claims.proofs.StepLaws.{has-words, reads-words, refuses-abov
 
 -- the cases of the screening, and then others: the screening decides, or the others do
 screening : (wrong : ℕ) (p : List ℕ) (cs : List Case)
-    → numbered (casesOf wrong p ++ cs) ≡ cond (eqb (screen wrong p .answer) goesOn) (numbered cs) (screen wrong p .answer)
+    → numbered (casesOf wrong p ++ cs)
+    ≡ cond (eqb (screen wrong p .answer) goesOn) (numbered cs) (screen wrong p .answer)
 unfolding screen
 screening wrong p cs =
-    go (eqb (length p) 0) (reserved (messageType (first p))) (eqb (messageType (first p)) wrong) (not (goodStatus (first p)))
+    go (eqb (length p) 0) (reserved (messageType (first p))) (eqb (messageType (first p)) wrong)
+    (not (goodStatus (first p)))
     (not (goodFields (checkedFields (first p) (second p))))
   where
     go : (a b c d e : Bool) →
         let x = cond a (answering cutPacket) (cond b (answering reservedType) (cond c (answering wrongProtocol)
         (cond d (answering badStatus) (cond e (answering badData) (answering goesOn))))) in
-        numbered (case cutPacket a ∷ case reservedType b ∷ case wrongProtocol c ∷ case badStatus d ∷ case badData e ∷ cs)
+        numbered
+        (case cutPacket a ∷ case reservedType b ∷ case wrongProtocol c ∷ case badStatus d ∷ case badData e ∷ cs)
         ≡ cond (eqb (x .answer) goesOn) (numbered cs) (x .answer)
     go true b c d e = refl
     go false true c d e = refl
@@ -52,11 +55,17 @@ screening wrong p cs =
     go false false false false false = refl
 
 -- what a refusal by the screening, and a packet that goes on, come to among the cases
-refused-row : {T : Type 0} (room wrong : ℕ) (p : List ℕ) (t : T) (cs : List Case) → (screen wrong p .answer ≡ goesOn → ⊥)
+refused-row : {T : Type 0} (room wrong : ℕ) (p : List ℕ) (t : T) (cs : List Case)
+    → (screen wrong p .answer ≡ goesOn → ⊥)
     → answerOf (fit room (refused (screen wrong p .answer) t)) ≡ numbered (casesOf wrong p ++ cs)
 refused-row {T} room wrong p t cs n =
     let a = screen wrong p .answer in
-    rw (refused-fits room a t, refusal {T = ℕ × T} a (room, t) [] (λ _. refl) .0, screening wrong p cs, ne-eqb a goesOn n)
+    rw (
+      refused-fits room a t,
+      refusal {T = ℕ × T} a (room, t) [] (λ _. refl) .0,
+      screening wrong p cs,
+      ne-eqb a goesOn n,
+    )
 
 onward-row : (wrong : ℕ) (p : List ℕ) (cs : List Case) → screen wrong p .answer ≡ goesOn
     → numbered (casesOf wrong p ++ cs) ≡ numbered cs
@@ -69,11 +78,13 @@ roomed-answer room a ws u =
     by-bool (leb (length ws) room) (λ e. rw (e, le-ltb room (length ws) (leb-true (length ws) room e)))
     (λ e. rw (e, lt-ltb room (length ws) (leb-false (length ws) room e)))
 
-up-answer : (room : ℕ) (t : List Record) (s : List ℕ) → answerOf (within tableUp (room, t) s) ≡ numbered (casesUp room t s)
+up-answer : (room : ℕ) (t : List Record) (s : List ℕ)
+    → answerOf (within tableUp (room, t) s) ≡ numbered (casesUp room t s)
 unfolding within
 up-answer room t s =
     table-cases (λ (c : Call (List Record)).
-    answerOf (fit room c) ≡ cond (not (eqb (length t) wholeTable)) noTable (numbered (casesOf voice2 p ++ last (sentOf c)))) t s
+    answerOf (fit room c) ≡ cond (not (eqb (length t) wholeTable)) noTable
+    (numbered (casesOf voice2 p ++ last (sentOf c)))) t s
     (λ e. rw e) (λ full. rw full (record {
       refuses = refused-row room voice2 p t (last (sentOf (refused (screen voice2 p .answer) t)));
       onward = λ f e. rw (onward-row voice2 p (last p) f, e, passed voice2 p f .some) (roomed-answer room sent p t);
@@ -95,7 +106,8 @@ up-answer room t s =
 down-answer : (room : ℕ) (s : List ℕ) → answerOf (within callDown (room, tt) s) ≡ numbered (casesDown room s)
 unfolding within callDown
 down-answer room s =
-    down-cases (λ (c : Call (Unit {0})). answerOf (fit room c) ≡ numbered (casesOf voice1 p ++ last (sentOf c))) p (record {
+    down-cases (λ (c : Call (Unit {0})). answerOf (fit room c) ≡ numbered (casesOf voice1 p ++ last (sentOf c))) p
+    (record {
       refuses = refused-row room voice1 p tt (last (sentOf (refused (screen voice1 p .answer) tt)));
       onward = λ f e. rw (onward-row voice1 p (last p) f, e) (roomed-answer room sent p tt);
       formless = λ f e k. rw (leb·zero room, onward-row voice1 p (last []) f, e, k);
@@ -119,7 +131,8 @@ data Shape {T : Type 0} (t : T) (s : List ℕ) : Call T → Type 0 where
   sending : {ws : List ℕ} {u : T} → 1 ≤ length (packet s) → 1 ≤ length ws → length ws ≤ 4 → Shape t s (went sent ws u)
 
 module _ {T : Type 0} (room : ℕ) (t : T) (s : List ℕ) where
-  by-refusal : (a : ℕ) → 2 ≤ a → (stopsRun a ≡ false → 1 ≤ length (packet s)) → ByAnswer (room, t) s (refused a (room, t))
+  by-refusal : (a : ℕ) → 2 ≤ a → (stopsRun a ≡ false → 1 ≤ length (packet s))
+      → ByAnswer (room, t) s (refused a (room, t))
   unfolding refused
   by-refusal a l n =
       choose (λ (c : Call (ℕ × T)). answerOf c ≡ a → ByAnswer (room, t) s c) (stopsRun a)
@@ -181,7 +194,8 @@ down-shape s =
       onward = λ f _ h. sending (has-words voice1 p f) (has-words voice1 p f) h;
       formless = λ f _ _ _. refusing {a = noForm} (omega arith) (λ _. has-words voice1 p f);
       sends = λ f _ m ms _ h.
-          sending {ws = map (write1 (groupOf (first p)) (channelOf (first p))) (m ∷ ms)} (has-words voice1 p f) (omega arith) h;
+          sending {ws = map (write1 (groupOf (first p)) (channelOf (first p))) (m ∷ ms)} (has-words voice1 p f)
+          (omega arith) h;
     }) (few-down p (packet-four s))
 
 -- what holds of the table with any own record holds of the table after

@@ -1,5 +1,5 @@
--- Up, down and up again, for every upward step that sends at most one packet a call, and every downward step that it undoes.
--- Assumes nothing.
+-- Up, down and up again, for every upward step that sends at most one packet a call, and every downward step that it
+-- undoes. Assumes nothing.
 use Prim.Native.Nat.{ℕ, _≤_}
 use mathlib.Core.Path.{_≡_, refl, sym, ap, _∙_}
 use mathlib.Core.List.{List, [], _∷_, _++_, append-assoc}
@@ -28,12 +28,14 @@ abbrev pub Taken : {T : Type 0} → Made T → Type 0
 Taken m = answerOf (m .call) ≤ takenIn
 
 -- a run none of whose calls is refused comes to its end
-pub taken-ends : {T : Type 0} (step : T → List ℕ → Call T) → ((t : T) (p : List ℕ) → Does (λ _. Unit {0}) (λ (a : ℕ). 2 ≤ a) (step t p))
+pub taken-ends : {T : Type 0} (step : T → List ℕ → Call T)
+    → ((t : T) (p : List ℕ) → Does (λ _. Unit {0}) (λ (a : ℕ). 2 ≤ a) (step t p))
     → (ps : List (List ℕ)) (t : T) → All Taken (calls step t ps) → run step t ps .answer ≡ sent
 unfolding run calls
 taken-ends step stops [] t h = refl
 taken-ends {T} step stops (p ∷ ps) t h =
-    by-first-call step (λ (r : Ran T). r .answer ≡ sent) t p ps (λ a ws u e. taken-ends step stops ps u ((rw e at h) .1))
+    by-first-call step (λ (r : Ran T). r .answer ≡ sent) t p ps
+    (λ a ws u e. taken-ends step stops ps u ((rw e at h) .1))
     (λ a e. let l : 2 ≤ a = rw e at (stops t p) in absurd (omega (arith, (rw e at h) .0)))
 
 -- In state t the words ws send p, whatever follows, and leave v; and no call there is refused.
@@ -49,12 +51,15 @@ pub came-packet : {T : Type 0} (step : T → List ℕ → Call T) (t u v : T) (q
 unfolding run calls
 came-packet step t u v q us ws p a whole e low c =
     record {
-      comes = λ s. rw (append-assoc q ws s, cut-whole q (ws ++ s) whole, e, c .comes s) (sym (append-assoc us p (run step v (cut s) .sends)));
+      comes =
+          λ s. rw (append-assoc q ws s, cut-whole q (ws ++ s) whole, e, c .comes s)
+          (sym (append-assoc us p (run step v (cut s) .sends)));
       taken = λ s h. rw (append-assoc q ws s, cut-whole q (ws ++ s) whole, e) (low, c .taken s h);
     }
 
 -- Down goes on at p, and what it sends comes up as p again, in a good state.
-pub record Undone {T U : Type 0} (up : T → List ℕ → Call T) (down : U → List ℕ → Call U) (Good : T → Type 0) (t : T) (u : U) (p : List ℕ) : Type 0 where
+pub record Undone {T U : Type 0} (up : T → List ℕ → Call T) (down : U → List ℕ → Call U) (Good : T → Type 0) (t : T)
+    (u : U) (p : List ℕ) : Type 0 where
   pub answer : ℕ
   pub words : List ℕ
   pub left : U
@@ -83,9 +88,11 @@ module _
     round [] t v u k g = (refl, tt)
     round (p ∷ ps) t v u k g =
         by-first-call up (λ (r : Ran T). Again up down v u (r .sends)) t p ps
-        (λ a ws t′ e. let f = rw e at (sends t p k) in go ws (f .0) (run up t′ ps .sends) (λ v′ u′ g′. round ps t′ v′ u′ (f .1) g′)) (λ a e. (refl, tt))
+        (λ a ws t′ e. let f = rw e at (sends t p k) in go ws (f .0) (run up t′ ps .sends)
+        (λ v′ u′ g′. round ps t′ v′ u′ (f .1) g′)) (λ a e. (refl, tt))
       where
-        go : (ws : List ℕ) → Sends Emit ws → (rest : List ℕ) → ((v′ : T) (u′ : U) → Good v′ → Again up down v′ u′ rest) → Again up down v u (ws ++ rest)
+        go : (ws : List ℕ) → Sends Emit ws → (rest : List ℕ) → ((v′ : T) (u′ : U) → Good v′ → Again up down v′ u′ rest)
+            → Again up down v u (ws ++ rest)
         go ws nothing rest ih = ih v u g
         go ws (packet whole emit) rest ih =
             let x = undone v u ws g emit in

@@ -16,7 +16,7 @@ use Rattle.ump.specs.declared.Channel.{Channel}
 use Rattle.ump.specs.Word.{channelOf, groupOf, messageType, placeOf, recordNumber, voice1, voice2}
 use Rattle.ump.specs.Packet.{Whole, cut, first, packet, size}
 use Rattle.ump.proofs.PacketLaws.{packet-whole}
-use Rattle.stream.specs.Answers.{sent, stopsRun, takenIn}
+use Rattle.stream.specs.Answers.{sent, stopsRun}
 use Rattle.stream.specs.Call.{Call, leftOf, refused, sentOf, stopped, went, within}
 use Rattle.stream.specs.Run.{run}
 use Rattle.stream.proofs.RunLaws.{roomed-sends}
@@ -29,14 +29,16 @@ use Rattle.message.proofs.MessageLaws.{place1, place2, read1-write1, read2-writ
 use Rattle.lift.specs.Lift.{banked2, lift}
 use Rattle.lift.proofs.LiftLaws.{Upward, lift-sound, lift-upward, read1-fits, upward-fits}
 use Rattle.lower.specs.Lower.{lower}
-use Rattle.voice.specs.Packet.{callDown, callUp, packetDown, packetUp, runDown, sending, sendingDown, speakDown, speakUp}
-use Rattle.table.specs.Table.{runBy, runUp, stored, tableUp}
+use Rattle.voice.specs.Packet.{callDown, callUp, packetDown, packetUp, runDown, sending, sendingDown, speakDown}
+use Rattle.voice.specs.Packet.{speakUp}
+use Rattle.table.specs.Table.{runUp, stored, tableUp}
 use Rattle.table.proofs.SoundLaws.{all-empty, at-set, fresh-sound}
 use Rattle.claims.specs.RoundTrip.{Blank, Gated, RoundTrip, RoundTripGated, StillPasses}
-use Rattle.claims.proofs.RoundLaws.{Again, Came, Fit, Undone, came-none, came-packet, nothing, packet as a-packet, round}
+use Rattle.claims.proofs.RoundLaws.{Again, Came, Fit, Undone, came-none, came-packet, nothing}
+use Rattle.claims.proofs.RoundLaws.{packet as a-packet, round}
 use Rattle.claims.proofs.StepLaws.{has-words, table-cases}
 use Rattle.claims.proofs.StreamLaws.{standing}
-use Rattle.claims.proofs.TakenBack.{liftAll, liftAll-sound, listed, lower-fits, taken-back}
+use Rattle.claims.proofs.TakenBack.{liftAll, liftAll-sound, asList, lower-fits, taken-back}
 use Rattle.claims.proofs.WordLaws.{good1, good2}
 
 module _ (g : Group) (c : Channel) (hg : g .0 < 16) (hc : c .0 < 16) where
@@ -54,29 +56,48 @@ module _ (g : Group) (c : Channel) (hg : g .0 < 16) (hc : c .0 < 16) where
   unfolding callDown packetDown screened speakDown banked2
   down-spoken m h =
       let p = place2 g c hg hc m (upward-fits m h) in
-      rw (packet-whole (write2 g c m) (whole2 m h), good2 g c hg hc m h, p .2, read2-write2 g c hg hc m (upward-fits m h), p .0, p .1)
+      rw (
+        packet-whole (write2 g c m) (whole2 m h),
+        good2 g c hg hc m h,
+        p .2,
+        read2-write2 g c hg hc m (upward-fits m h),
+        p .0,
+        p .1,
+      )
       (go (lower m) (taken-back empty m refl h .0))
     where
-      go : (ms : List Midi1) → liftAll empty ms .sends ≡ m ∷ [] → sendingDown g c ms ≡ went sent (map (write1 g c) ms) tt
+      go : (ms : List Midi1) → liftAll empty ms .sends ≡ m ∷ []
+          → sendingDown g c ms ≡ went sent (map (write1 g c) ms) tt
       go [] e = absurd (nil≢cons e)
       go (x ∷ ms) e = refl
 
   -- up at a message that is written
-  up-written : (t : List Record) (m : Midi1) → Fits1 m → length t ≡ wholeTable → sound (getD t (recordNumber g c) empty) ≡ true
+  up-written : (t : List Record) (m : Midi1) → Fits1 m → length t ≡ wholeTable
+      → sound (getD t (recordNumber g c) empty) ≡ true
       → let r = getD t (recordNumber g c) empty in
       tableUp t (write1 g c m ∷ []) ≡ stored t (recordNumber g c) (sending g c (lift r m .after) (lift r m .sends))
   unfolding tableUp callUp packetUp screened speakUp
   up-written t m f l h =
       let p = place1 g c hg hc m f in
       let k : placeOf (write1 g c m) ≡ recordNumber g c = ap₂ recordNumber (p .0) (p .1) in
-      rw (eq-eqb (length t) wholeTable l, packet-whole (write1 g c m ∷ []) (whole1 m f), good1 g c hg hc m f, p .2,
-      read1-write1 g c hg hc m f, p .0, p .1, k, h)
+      rw (
+        eq-eqb (length t) wholeTable l,
+        packet-whole (write1 g c m ∷ []) (whole1 m f),
+        good1 g c hg hc m f,
+        p .2,
+        read1-write1 g c hg hc m f,
+        p .0,
+        p .1,
+        k,
+        h,
+      )
 
 -- a packet that is sent on, either way
 up-onward : (t : List Record) (p : List ℕ) → length t ≡ wholeTable → Whole p → screen voice2 p .answer ≡ goesOn
     → eqb (messageType (first p)) voice1 ≡ false → tableUp t p ≡ went sent p t
 unfolding tableUp callUp packetUp screened
-up-onward t p l w f e = rw (eq-eqb (length t) wholeTable l, packet-whole p w, f, e, set-getD t (placeOf (first p)) empty)
+up-onward t p l w f e =
+    rw (eq-eqb (length t) wholeTable l, packet-whole p w, f, e, set-getD t (placeOf (first p)) empty)
 
 down-onward : (p : List ℕ) → Whole p → screen voice2 p .answer ≡ goesOn → eqb (messageType (first p)) voice1 ≡ false
     → callDown tt p ≡ went sent p tt
@@ -87,7 +108,8 @@ down-onward p w f e =
 
 -- the packets that up can send, of which all that comes down passes
 data Emit (passes : List ℕ → Bool) : List ℕ → Type 0 where
-  onward : {p : List ℕ} → Whole p → screen voice2 p .answer ≡ goesOn → eqb (messageType (first p)) voice1 ≡ false → passes p ≡ true
+  onward : {p : List ℕ} → Whole p → screen voice2 p .answer ≡ goesOn → eqb (messageType (first p)) voice1 ≡ false
+      → passes p ≡ true
       → Emit passes p
   spoken : (g : Group) (c : Channel) (m : Midi2) → g .0 < 16 → c .0 < 16 → Upward m
       → All (λ (x : Midi1). passes (write1 g c x ∷ []) ≡ true) (lower m) → Emit passes (write2 g c m)
@@ -111,7 +133,8 @@ module _ (passes : List ℕ → Bool) (up : List Record → List ℕ → Call (L
   voices g c hg hc [] t f q l h = rw (set-getD t (recordNumber g c) empty) (came-none up t)
   voices g c hg hc (m ∷ ms) t f q l h =
       go (lift r m .sends) refl
-      (rw (same, set-set t k (lift r m .after) _) at (voices g c hg hc ms u (f .1) (q .1) (length-set t k (lift r m .after) ∙ l) (rw same (lift-sound r h m (f .0)))))
+      (rw (same, set-set t k (lift r m .after) _) at
+      (voices g c hg hc ms u (f .1) (q .1) (length-set t k (lift r m .after) ∙ l) (rw same (lift-sound r h m (f .0)))))
     where
       k : ℕ
       k = recordNumber g c
@@ -132,12 +155,19 @@ module _ (passes : List ℕ → Bool) (up : List Record → List ℕ → Call (L
       v = set t k (liftAll (lift r m .after) ms .after)
 
       call : (o : Option Midi2) → lift r m .sends ≡ o → up t (w ∷ []) ≡ stored t k (sending g c (lift r m .after) o)
-      call o e = gate .as-before t (w ∷ []) l (rw (packet-whole (w ∷ []) (whole1 g c hg hc m (f .0))) (q .0)) ∙ up-written g c hg hc t m (f .0) l h ∙ rw e
+      call o e =
+          gate .as-before t (w ∷ []) l (rw (packet-whole (w ∷ []) (whole1 g c hg hc m (f .0))) (q .0))
+          ∙ up-written g c hg hc t m (f .0) l h ∙ rw e
 
-      go : (o : Option Midi2) → lift r m .sends ≡ o → Came up u v (map (write1 g c) ms) (words g c (liftAll (lift r m .after) ms .sends))
-          → Came up t v (w ∷ map (write1 g c) ms) (words g c (listed o ++ liftAll (lift r m .after) ms .sends))
-      go none e ih = came-packet up t u v (w ∷ []) [] (map (write1 g c) ms) _ 1 (whole1 g c hg hc m (f .0)) (call none e) (omega arith) ih
-      go (some x) e ih = came-packet up t u v (w ∷ []) (write2 g c x) (map (write1 g c) ms) _ 0 (whole1 g c hg hc m (f .0)) (call (some x) e) (omega arith) ih
+      go : (o : Option Midi2) → lift r m .sends ≡ o
+          → Came up u v (map (write1 g c) ms) (words g c (liftAll (lift r m .after) ms .sends))
+          → Came up t v (w ∷ map (write1 g c) ms) (words g c (asList o ++ liftAll (lift r m .after) ms .sends))
+      go none e ih =
+          came-packet up t u v (w ∷ []) [] (map (write1 g c) ms) _ 1 (whole1 g c hg hc m (f .0)) (call none e)
+          (omega arith) ih
+      go (some x) e ih =
+          came-packet up t u v (w ∷ []) (write2 g c x) (map (write1 g c) ms) _ 0 (whole1 g c hg hc m (f .0))
+          (call (some x) e) (omega arith) ih
 
   -- such a packet goes down, and what comes up of it again is the packet
   undone : (t : List Record) (u : Unit {0}) (p : List ℕ) → Blank t → Emit passes p → Undone up callDown Blank t u p
@@ -167,7 +197,9 @@ module _ (passes : List ℕ → Bool) (up : List Record → List ℕ → Call (L
         end = set t k after;
         good = record {
           whole = length-set t k after ∙ y .whole;
-          sounds = at-set (λ (r : Record). sound r ≡ true) t k after (liftAll-sound (lower m) r fits (y .sounds k)) (y .sounds);
+          sounds =
+              at-set (λ (r : Record). sound r ≡ true) t k after (liftAll-sound (lower m) r fits (y .sounds k))
+              (y .sounds);
           bankless = at-set (λ (r : Record). banked2 r ≡ noBank) t k after (x .1) (y .bankless);
         };
         back = rw (x .0) at (voices g c hg hc (lower m) t fits q (y .whole) (y .sounds k));
@@ -206,7 +238,8 @@ module _ (passes : List ℕ → Bool) (up : List Record → List ℕ → Call (L
                 let r = getD t (placeOf (first s)) empty in
                 let x : Upward m = rw k at (lift-upward r h (read1 w) (read1-fits w)) in (
                   a-packet (whole2 (groupOf w) (channelOf w) (omega arith) (omega arith) m x)
-                      (spoken (groupOf w) (channelOf w) m (omega arith) (omega arith) x (still p r m q (eqb-true (messageType w) voice1 e) h k)),
+                      (spoken (groupOf w) (channelOf w) m (omega arith) (omega arith) x
+                      (still p r m q (eqb-true (messageType w) voice1 e) h k)),
                   after _,
                 );
           })
@@ -221,10 +254,12 @@ fresh-blank =
     }
 
 -- with unlimited room; and no packet of the second pass up is refused
-pub returns : (passes : List ℕ → Bool) (up : List Record → List ℕ → Call (List Record)) → Gated passes up → StillPasses passes
+pub returns : (passes : List ℕ → Bool) (up : List Record → List ℕ → Call (List Record)) → Gated passes up
+    → StillPasses passes
     → (t : List Record) → Blank t → (s : List ℕ) → Again up callDown t tt (run up t (cut s) .sends)
 returns passes up gate still t y s =
-    round up callDown Full Blank (Emit passes) (sends passes up gate still) (undone passes up gate) (cut s) t t tt (y .whole) y
+    round up callDown Full Blank (Emit passes) (sends passes up gate still) (undone passes up gate) (cut s) t t tt
+    (y .whole) y
 
 pub proved-round-trip-gated : RoundTripGated
 unfolding runDown
@@ -232,7 +267,11 @@ proved-round-trip-gated passes up gate still t y s a b c =
     rw (eq-eqb (length t) wholeTable (y .whole)) (λ hx hy hz.
     let u = run (within up) (a, t) (cut s) in
     let d = run (within callDown) (b, tt) (cut (u .sends)) in
-    rw (roomed-sends up (cut (d .sends)) t c hz, roomed-sends callDown (cut (u .sends)) tt b hy, roomed-sends up (cut s) t a hx)
+    rw (
+      roomed-sends up (cut (d .sends)) t c hz,
+      roomed-sends callDown (cut (u .sends)) tt b hy,
+      roomed-sends up (cut s) t a hx,
+    )
     (returns passes up gate still t y s .0))
 
 -- the rule that lets all pass

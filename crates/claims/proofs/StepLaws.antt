@@ -2,7 +2,7 @@
 use Prim.Native.Nat.{ℕ, _*_, _≤_}
 use mathlib.Core.Path.{_≡_, refl, sym, _∙_}
 use mathlib.Core.Bool.{true, false}
-use mathlib.Core.List.{List, [], _∷_, map}
+use mathlib.Core.List.{List, [], _∷_}
 use native.Mathlib.Omega.{arith}
 use lib.ListN.{getD, length, length-set, set}
 use lib.Seq.{set-getD}
@@ -13,7 +13,7 @@ use Rattle.ump.specs.Word.{messageType, placeOf, voice1, voice2}
 use Rattle.ump.specs.Packet.{first, packet, size}
 use Rattle.ump.proofs.PacketLaws.{packet-four, packet-length}
 use Rattle.stream.specs.Answers.{cutPacket, noTable, notSound, stopsRun}
-use Rattle.stream.specs.Call.{Call, refused, sentOf, stopped, went}
+use Rattle.stream.specs.Call.{Call, refused, sentOf, stopped}
 use Rattle.stream.proofs.CallLaws.{refusal}
 use Rattle.stream.proofs.RunLaws.{Does}
 use Rattle.screen.specs.Screen.{goesOn, screen}
@@ -66,17 +66,19 @@ table-cases P t s ten filled =
     ten
 
 -- up stops with 3, 8 and 10 alone, and down with 3; what holds of the table with any own record holds of the table left
-pub up-calls : (I : List Record → Type 0) (A : ℕ → Type 0) → A cutPacket → A notSound → A noTable → (t : List Record) (s : List ℕ)
-    → ((r : Record) → I (set t (placeOf (first s)) r)) → Does I A (tableUp t s)
+pub up-calls : (I : List Record → Type 0) (A : ℕ → Type 0) → A cutPacket → A notSound → A noTable
+    → (t : List Record) (s : List ℕ) → ((r : Record) → I (set t (placeOf (first s)) r)) → Does I A (tableUp t s)
 unfolding callUp
 up-calls I A three eight ten t s other =
     let k = placeOf (first s) in
     table-does I A t s ten
     (up-does (λ (r : Record). I (set t k r)) A (getD t k empty) (packet s) (other _) three (λ _. eight) (λ _. other _))
 
-pub up-length : (t : List Record) (s : List ℕ) → Does (λ (u : List Record). length u ≡ length t) (λ _. Unit {0}) (tableUp t s)
+pub up-length : (t : List Record) (s : List ℕ)
+    → Does (λ (u : List Record). length u ≡ length t) (λ _. Unit {0}) (tableUp t s)
 up-length t s =
-    up-calls (λ (u : List Record). length u ≡ length t) (λ _. Unit {0}) tt tt tt t s (λ r. length-set t (placeOf (first s)) r)
+    up-calls (λ (u : List Record). length u ≡ length t) (λ _. Unit {0}) tt tt tt t s
+    (λ r. length-set t (placeOf (first s)) r)
 
 pub up-stops : (A : ℕ → Type 0) → A cutPacket → A notSound → A noTable → (t : List Record) (s : List ℕ)
     → Does (λ _. Unit {0}) A (tableUp t s)
@@ -90,8 +92,8 @@ down-stops A three u s = down-does A (packet s) three
 none-sent : {T : Type 0} (a : ℕ) (t : T) (n : ℕ) → length (sentOf (refused a t)) ≤ n
 none-sent a t n = rw (refusal a t [] (λ _. refl) .2) (omega arith)
 
-pub up-few : (t : List Record) (s : List ℕ) → length (sentOf (tableUp t s)) ≤ 2 * length s
-up-few t s =
+pub twice-up : (t : List Record) (s : List ℕ) → length (sentOf (tableUp t s)) ≤ 2 * length s
+twice-up t s =
     let p = packet s in
     let l = packet-length s in
     table-cases (λ (c : Call (List Record)). length (sentOf c) ≤ 2 * length s) t s (λ _. omega arith) (λ _. record {
@@ -102,9 +104,9 @@ up-few t s =
       sends = λ f _ _ _ _. omega (arith, has-words voice2 p f);
     })
 
-pub down-few : (u : Unit {0}) (s : List ℕ) → length (sentOf (callDown u s)) ≤ 2 * length s
+pub twice-down : (u : Unit {0}) (s : List ℕ) → length (sentOf (callDown u s)) ≤ 2 * length s
 unfolding callDown size
-down-few u s =
+twice-down u s =
     let p = packet s in
     let l = packet-length s in
     down-cases (λ (c : Call (Unit {0})). length (sentOf c) ≤ 4 → length (sentOf c) ≤ 2 * length s) p (record {

@@ -31,13 +31,14 @@ pub cut-all : (ps : List (List ℕ)) → All Whole ps → cut (joined ps) ≡ ps
 unfolding cut cutAfter
 cut-all ps h = rw (append-nil (joined ps), append-nil ps) at (cut-joined ps [] h)
 
--- the packet that stands first, where there is one: it is whole, and has the size of the first word, with which it starts
+-- the packet that stands first, where there is one: it is whole, starts with the first word, and has the size of that
 pub standing : (s : List ℕ) → 1 ≤ length (packet s)
     → Whole (packet s) × (first s ≡ first (packet s)) × (length (packet s) ≡ size (first s))
 unfolding packet Whole
 standing [] h = absurd (omega arith)
 standing (w ∷ s) h =
-    choose (λ (p : List ℕ). 1 ≤ length p → Whole p × (w ≡ first p) × (length p ≡ size w)) (leb (size w) (length (w ∷ s)))
+    choose (λ (p : List ℕ). 1 ≤ length p → Whole p × (w ≡ first p) × (length p ≡ size w))
+    (leb (size w) (length (w ∷ s)))
     (λ e _. go (size w) refl (size-range w) (leb-true (size w) (length (w ∷ s)) e)) (λ e k. absurd (omega arith)) h
   where
     go : (n : ℕ) → size w ≡ n → (1 ≤ size w) × (size w ≤ 4) → size w ≤ length (w ∷ s)

@@ -1,5 +1,5 @@
 -- Messages: going up undoes going down, record by record. Assumes nothing.
-use Prim.Native.Nat.{ℕ, _*_, _/_, _%_, _^_, _≤_}
+use Prim.Native.Nat.{_/_, _%_, _^_}
 use mathlib.Core.Path.{_≡_, refl}
 use mathlib.Core.Bool.{true}
 use mathlib.Core.Option.{Option, none, some}
@@ -13,8 +13,8 @@ use Rattle.channel.specs.declared.Record.{Record}
 use Rattle.channel.specs.Record.{kept, missing, sound, withDataHigh}
 use Rattle.message.specs.Message.{Fits1, Midi1, Midi2, noBank}
 use Rattle.lift.specs.Lift.{addressed2, banked2, controlOf, controlled, dataLow, lift}
-use Rattle.lift.proofs.LiftLaws.{Upward, anyAssignable, anyBankProgram, anyBend, anyNoteOff, anyNoteOn, anyPlain, anyPolyPressure}
-use Rattle.lift.proofs.LiftLaws.{anyPressure, anyProgram, anyRegistered, lift-sound, plain-control}
+use Rattle.lift.proofs.LiftLaws.{Upward, anyAssignable, anyBankProgram, anyBend, anyNoteOff, anyNoteOn, anyPlain}
+use Rattle.lift.proofs.LiftLaws.{anyPolyPressure, anyPressure, anyProgram, anyRegistered, lift-sound, plain-control}
 use Rattle.lower.specs.Lower.{lower, sounding}
 
 -- messages into one record, in a row: the record after, and all that is sent
@@ -22,15 +22,15 @@ pub record LiftedAll : Type 0 where
   pub after : Record
   pub sends : List Midi2
 
-abbrev pub listed : Option Midi2 → List Midi2
-listed none = []
-listed (some m) = m ∷ []
+abbrev pub asList : Option Midi2 → List Midi2
+asList none = []
+asList (some m) = m ∷ []
 
 abbrev pub liftAll : Record → List Midi1 → LiftedAll
 liftAll r [] = record { after = r; sends = [] }
 liftAll r (m ∷ ms) =
     let rest = liftAll (lift r m .after) ms in
-    record { after = rest .after; sends = listed (lift r m .sends) ++ rest .sends }
+    record { after = rest .after; sends = asList (lift r m .sends) ++ rest .sends }
 
 pub liftAll-sound : (ms : List Midi1) (r : Record) → All Fits1 ms → sound r ≡ true → sound (liftAll r ms .after) ≡ true
 liftAll-sound [] r f h = h
@@ -58,13 +58,34 @@ taken-back r _ w (anyRegistered {b} {i} {v} hb hi n h) =
     let x = down 32 14 v in
     let f : x % 2 ^ 14 ≡ x = omega (arith, h .0) in
     rw n
-    (simp (withDataHigh, dataLow, addressed2, kept, n, ne-eqb b missing (λ e. omega arith), ne-eqb i missing (λ e. omega arith),
-    ne-eqb (x / 2 ^ 7) missing (λ e. omega arith), div-add-mod' x (2 ^ 7), f, h .1) (refl, w))
+    (simp (
+      withDataHigh,
+      dataLow,
+      addressed2,
+      kept,
+      n,
+      ne-eqb b missing (λ e. omega arith),
+      ne-eqb i missing (λ e. omega arith),
+      ne-eqb (x / 2 ^ 7) missing (λ e. omega arith),
+      div-add-mod' x (2 ^ 7),
+      f,
+      h .1,
+    ) (refl, w))
 taken-back r _ w (anyAssignable {b} {i} {v} hb hi h) =
     let x = down 32 14 v in
     let f : x % 2 ^ 14 ≡ x = omega (arith, h .0) in
-    simp (withDataHigh, dataLow, addressed2, kept, ne-eqb b missing (λ e. omega arith), ne-eqb i missing (λ e. omega arith),
-    ne-eqb (x / 2 ^ 7) missing (λ e. omega arith), div-add-mod' x (2 ^ 7), f, h .1) (refl, w)
+    simp (
+      withDataHigh,
+      dataLow,
+      addressed2,
+      kept,
+      ne-eqb b missing (λ e. omega arith),
+      ne-eqb i missing (λ e. omega arith),
+      ne-eqb (x / 2 ^ 7) missing (λ e. omega arith),
+      div-add-mod' x (2 ^ 7),
+      f,
+      h .1,
+    ) (refl, w)
 taken-back r _ w (anyNoteOff h x) = (rw (x .1), w)
 taken-back r _ w (anyNoteOn {n} {v} h x z) =
     rw (ne-eqb (down 16 7 v) 0 z) (rw (ne-eqb (down 16 7 v) 0 z, x .1) (refl, w))

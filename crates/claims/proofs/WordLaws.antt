@@ -14,20 +14,22 @@ use Rattle.stream.specs.Answers.{badData}
 use Rattle.screen.specs.Check.{Field, checkedFields, goodFields, goodStatus, seven, voice1Fields, voice2Fields}
 use Rattle.screen.specs.Screen.{answering, checkVoice1, goesOn, screen}
 use Rattle.screen.proofs.ScreenLaws.{screen-voice1}
-use Rattle.message.specs.Message.{Fits1, Midi1, Midi2, channelPressure1, controlChange1, first2, noteOff1, noteOn1, pitchBend1}
-use Rattle.message.specs.Message.{polyPressure1, programChange1, second2, voiceWord, write1, write2}
+use Rattle.message.specs.Message.{Fits1, Midi1, Midi2, channelPressure1, controlChange1, first2, noteOff1, noteOn1}
+use Rattle.message.specs.Message.{pitchBend1, polyPressure1, programChange1, second2, voiceWord, write1, write2}
 use Rattle.message.proofs.MessageLaws.{built}
-use Rattle.lift.proofs.LiftLaws.{Upward, anyAssignable, anyBankProgram, anyBend, anyNoteOff, anyNoteOn, anyPlain, anyPolyPressure}
-use Rattle.lift.proofs.LiftLaws.{anyPressure, anyProgram, anyRegistered}
+use Rattle.lift.proofs.LiftLaws.{Upward, anyAssignable, anyBankProgram, anyBend, anyNoteOff, anyNoteOn, anyPlain}
+use Rattle.lift.proofs.LiftLaws.{anyPolyPressure, anyPressure, anyProgram, anyRegistered}
 
 module _ (g : Group) (c : Channel) (hg : g .0 < 16) (hc : c .0 < 16) where
-  word-good1 : (s a b : ℕ) → 8 ≤ s → s ≤ 14 → a ≤ 127 → b ≤ 127 → screen voice2 (voiceWord 2 g s c a b ∷ []) ≡ answering goesOn
+  word-good1 : (s a b : ℕ) → 8 ≤ s → s ≤ 14 → a ≤ 127 → b ≤ 127
+      → screen voice2 (voiceWord 2 g s c a b ∷ []) ≡ answering goesOn
   unfolding checkVoice1 voice1Fields goodFields
   word-good1 s a b hs hs′ ha hb =
       let f = built 2 g s c a b (omega arith) hg (omega arith) hc (omega arith) (omega arith) in
       screen-voice1 (voiceWord 2 g s c a b) (f .is-type)
       ∙ rw (f .is-status, f .is-byte3, f .is-byte4, le-leb 8 s hs, le-leb s 14 hs′)
-      (choose (λ (fs : List Field). cond (not (goodFields fs)) (answering badData) (answering goesOn) ≡ answering goesOn)
+      (choose (λ (fs : List Field). cond (not (goodFields fs)) (answering badData) (answering goesOn)
+      ≡ answering goesOn)
       (eqb s 12 || eqb s 13) (λ _. rw (le-leb a 127 ha)) (λ _. rw (le-leb a 127 ha, le-leb b 127 hb)))
 
   pub good1 : (m : Midi1) → Fits1 m → screen voice2 (write1 g c m ∷ []) ≡ answering goesOn
@@ -59,17 +61,26 @@ module _ (g : Group) (c : Channel) (hg : g .0 < 16) (hc : c .0 < 16) where
       word-good2 2 b i v (omega arith) (omega arith) (omega arith) refl (rw (le-leb b 127 hb, le-leb i 127 hi))
   good2 _ (anyAssignable {b} {i} {v} hb hi _) =
       word-good2 3 b i v (omega arith) (omega arith) (omega arith) refl (rw (le-leb b 127 hb, le-leb i 127 hi))
-  good2 _ (anyNoteOff {n} {v} h _) = word-good2 8 n 0 (v * 2 ^ 16) (omega arith) (omega arith) (omega arith) refl (le-leb n 127 h)
-  good2 _ (anyNoteOn {n} {v} h _ _) = word-good2 9 n 0 (v * 2 ^ 16) (omega arith) (omega arith) (omega arith) refl (le-leb n 127 h)
-  good2 _ (anyPolyPressure {n} {v} h _) = word-good2 10 n 0 v (omega arith) (omega arith) (omega arith) refl (le-leb n 127 h)
+  good2 _ (anyNoteOff {n} {v} h _) =
+      word-good2 8 n 0 (v * 2 ^ 16) (omega arith) (omega arith) (omega arith) refl (le-leb n 127 h)
+  good2 _ (anyNoteOn {n} {v} h _ _) =
+      word-good2 9 n 0 (v * 2 ^ 16) (omega arith) (omega arith) (omega arith) refl (le-leb n 127 h)
+  good2 _ (anyPolyPressure {n} {v} h _) =
+      word-good2 10 n 0 v (omega arith) (omega arith) (omega arith) refl (le-leb n 127 h)
   good2 _ (anyPlain {i} {v} h _ _) = word-good2 11 i 0 v (omega arith) (omega arith) (omega arith) refl (le-leb i 127 h)
   good2 _ (anyProgram {p} h) =
       let k : bankFlag (voiceWord 4 g 12 c 0 0) ≡ 0 = omega arith in
-      word-good2 12 0 0 (p * 2 ^ 24) (omega arith) (omega arith) (omega arith) refl (rw k (le-leb (byte1 (p * 2 ^ 24)) 127 (omega arith)))
+      word-good2 12 0 0 (p * 2 ^ 24) (omega arith) (omega arith) (omega arith) refl
+      (rw k (le-leb (byte1 (p * 2 ^ 24)) 127 (omega arith)))
   good2 _ (anyBankProgram {p} {h} {l} hp hh hl) =
       let k : bankFlag (voiceWord 4 g 12 c 0 1) ≡ 1 = omega arith in
       let v = p * 2 ^ 24 + h * 2 ^ 8 + l in
       word-good2 12 0 1 v (omega arith) (omega arith) (omega arith) refl
-      (rw (k, le-leb (byte1 v) 127 (omega arith), le-leb (byte3 v) 127 (omega arith), le-leb (byte4 v) 127 (omega arith)))
+      (rw (
+        k,
+        le-leb (byte1 v) 127 (omega arith),
+        le-leb (byte3 v) 127 (omega arith),
+        le-leb (byte4 v) 127 (omega arith),
+      ))
   good2 _ (anyPressure {v} _) = word-good2 13 0 0 v (omega arith) (omega arith) (omega arith) refl refl
   good2 _ (anyBend {v} _) = word-good2 14 0 0 v (omega arith) (omega arith) (omega arith) refl refl

@@ -7,7 +7,7 @@ use Rattle.ground.specs.Lists.{All, joined, sum}
 use Rattle.ump.specs.Packet.{Whole, cut}
 use Rattle.stream.specs.Answers.{noTable}
 use Rattle.stream.specs.Call.{Call, readOf, sentOf, stopped, went, within}
-use Rattle.stream.specs.Run.{Ran, run}
+use Rattle.stream.specs.Run.{run}
 use Rattle.stream.specs.Claims.{Made, andThen, calls}
 use Rattle.channel.specs.declared.Record.{Record}
 use Rattle.channel.specs.Record.{wholeTable}

@@ -19,8 +19,8 @@ use Rattle.lower.specs.Lower.{lower}
 use Rattle.voice.specs.Packet.{runDown}
 use Rattle.table.specs.Table.{SoundTable, runBy, runUp, tableUp}
 
--- A table to start from: a whole one, of sound records, and none has a bank that the next program change would take along.
--- An address may stand in it, and so may half a bank.
+-- A table to start from: a whole one, of sound records, and none has a bank that the next program change would take
+-- along. An address may stand in it, and so may half a bank.
 pub record Blank (t : List Record) : Type 0 where
   pub whole : length t ≡ wholeTable
   pub sounds : SoundTable t

@@ -8,12 +8,17 @@ use lib.Dec.{eqb}
 use lib.ListN.{length}
 use Rattle.ump.specs.Word.{byte3, byte4, status}
 use Rattle.scale.specs.Scale.{down}
-use Rattle.message.specs.Message.{Bank, Midi2, assignable2, assignablePerNote2, bank, channelPressure2, controlChange1, controlChange2, noBank, noteOff2, noteOn2, perNoteManagement2, perNotePitchBend2, part, pitchBend2, polyPressure2, programChange2, read2, registered2, registeredPerNote2, relativeAssignable2, relativeRegistered2}
+use Rattle.message.specs.Message.{Midi2, assignable2, assignablePerNote2, bank, channelPressure2, controlChange1}
+use Rattle.message.specs.Message.{controlChange2, noBank, noteOff2, noteOn2, part, perNoteManagement2}
+use Rattle.message.specs.Message.{perNotePitchBend2, pitchBend2, polyPressure2, programChange2, read2, registered2}
+use Rattle.message.specs.Message.{registeredPerNote2, relativeAssignable2, relativeRegistered2}
 use Rattle.lower.specs.Lower.{entered, lower}
 
 -- the statuses that have no form: 0, 1, 4, 5, 6 and F
-pub formless-status : (w v : ℕ) → eqb (status w) 2 ≡ false → eqb (status w) 3 ≡ false → eqb (status w) 8 ≡ false → eqb (status w) 9 ≡ false → eqb (status w) 10 ≡ false
-    → eqb (status w) 11 ≡ false → eqb (status w) 12 ≡ false → eqb (status w) 13 ≡ false → eqb (status w) 14 ≡ false → lower (read2 w v) ≡ []
+pub formless-status : (w v : ℕ) → eqb (status w) 2 ≡ false → eqb (status w) 3 ≡ false → eqb (status w) 8 ≡ false
+    → eqb (status w) 9 ≡ false → eqb (status w) 10 ≡ false
+    → eqb (status w) 11 ≡ false → eqb (status w) 12 ≡ false → eqb (status w) 13 ≡ false → eqb (status w) 14 ≡ false
+    → lower (read2 w v) ≡ []
 unfolding read2 lower
 formless-status w v e2 e3 e8 e9 e10 e11 e12 e13 e14 =
     rw (e2, e3, e8, e9, e10, e11, e12, e13, e14)
