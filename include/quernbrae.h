@@ -1,8 +1,10 @@
-/* Quernbrae: translation of Universal MIDI Packets between MIDI 1.0 and MIDI 2.0.
+/* Quernbrae: translates Universal MIDI Packets from MIDI 1.0 up to MIDI 2.0, and back down.
  *
- * Link target/staticlib/libquernbrae.a. Every function is total: it answers on every stream of words,
- * every table and every output, and a caller has to check nothing first. A slice is a pointer and a
- * length in elements; the pointers of one call must not overlap, except that words are only read.
+ * Link target/staticlib/libquernbrae.a. The rules stand in docs/RULES.md; a comment here names its sections.
+ *
+ * Every function answers whatever it is given: any words, any table, any output. A caller has nothing to check first.
+ * What is lent is a pointer and a number of elements, and no two parts lent to one call may overlap. The words are only
+ * read.
  */
 #ifndef QUERNBRAE_H
 #define QUERNBRAE_H
@@ -14,30 +16,31 @@
 extern "C" {
 #endif
 
-/* Answers. */
+/* The answers of a call (docs/RULES.md, 3.1). A run gives 0, 3, 8, 9 or 10 (4). */
 enum {
-    QUERNBRAE_SENT = 0,           /* sent; of a run: finished */
-    QUERNBRAE_TAKEN_IN = 1,       /* taken in, nothing to send */
-    QUERNBRAE_NO_FORM = 2,        /* no MIDI 1.0 form (down only) */
-    QUERNBRAE_CUT = 3,            /* fewer words left than the packet's size, or none */
-    QUERNBRAE_RESERVED = 4,       /* reserved message type */
-    QUERNBRAE_WRONG_PROTOCOL = 5, /* MIDI 2.0 voice going up, MIDI 1.0 voice going down */
-    QUERNBRAE_BAD_STATUS = 6,
-    QUERNBRAE_BAD_DATA = 7,
-    QUERNBRAE_NOT_SOUND = 8,      /* the packet's own record is not sound (up only) */
-    QUERNBRAE_NO_ROOM = 9,        /* the output is shorter than what the packet sends */
-    QUERNBRAE_NO_TABLE = 10       /* the table has not 256 records (up only) */
+    QUERNBRAE_SENT = 0,           /* sent; a run has finished */
+    QUERNBRAE_TAKEN_IN = 1,       /* kept in the record at most, so nothing is sent */
+    QUERNBRAE_NO_FORM = 2,        /* cannot be said in MIDI 1.0 (8) */
+    QUERNBRAE_CUT = 3,            /* the packet lacks words, or there is none (1.3) */
+    QUERNBRAE_RESERVED = 4,       /* reserved message type (2.1) */
+    QUERNBRAE_WRONG_PROTOCOL = 5, /* MIDI 2.0 voice going up, MIDI 1.0 voice going down (2.1) */
+    QUERNBRAE_BAD_STATUS = 6,     /* 2.2 */
+    QUERNBRAE_BAD_DATA = 7,       /* 2.3 */
+    QUERNBRAE_NOT_SOUND = 8,      /* going up: the record of the packet's channel breaks 5.2 */
+    QUERNBRAE_NO_ROOM = 9,        /* the output cannot hold what the packet sends (3.4) */
+    QUERNBRAE_NO_TABLE = 10       /* going up: the table has more or fewer than 256 records */
 };
 
-/* Kinds of an address. */
+/* The address kinds of a record (docs/RULES.md, 5.1). */
 enum { QUERNBRAE_NONE = 0, QUERNBRAE_REGISTERED = 1, QUERNBRAE_ASSIGNABLE = 2 };
 
-/* A number that is not there; any other number of a sound record is 0 to 127. */
+/* Stands for a number that is missing. All other numbers of a sound record are at most 127. */
 enum { QUERNBRAE_MISSING = 255 };
 
-/* The records of a table, one for each channel of each group: number 16 times group plus channel. */
+/* The length of a table: a record for each of 16 channels in each of 16 groups (docs/RULES.md, 1.4). */
 enum { QUERNBRAE_RECORDS = 256 };
 
+/* What is remembered of one channel between packets (docs/RULES.md, 5.1). */
 typedef struct {
     uint16_t kind;
     uint8_t bank_high;
@@ -47,35 +50,37 @@ typedef struct {
     uint8_t data_high;
 } quernbrae_record;
 
+/* What a call or a run reports. */
 typedef struct {
     uint32_t answer;
     size_t read;    /* words read */
     size_t written; /* words written, from the output's start */
 } quernbrae_done;
 
-/* The empty record: everything missing, kind none.
- * A fresh table is 256 of them. */
+/* The empty record: kind none, all five numbers missing. Fill a table with it before the first packet
+ * (docs/RULES.md, 5.1). */
 quernbrae_record quernbrae_empty(void);
 
-/* One call up: translates the packet at the start of words.
- * Answers 2 to 10 change nothing; else only the words written and the packet's own record differ. */
+/* One call up, for the packet at the start of words (docs/RULES.md, 6).
+ * After answers 2 to 10 table and output are as they were. After 0 and 1 the record of the packet's channel may have
+ * changed, and the words written are the only other change (3.3). */
 quernbrae_done quernbrae_up(const uint32_t *words, size_t words_len,
                             quernbrae_record *table, size_t table_len,
                             uint32_t *out, size_t out_len);
 
-/* A run up: every packet of words, until answer 3, 8, 9 or 10 stops it; 0 is "finished".
- * What it did so far stands, and it can be taken up again at words + read. */
+/* A run up: a call for each packet, until the words end or answer 3, 8, 9 or 10 stops it (docs/RULES.md, 4).
+ * What was done by then stands. The run can be taken up again at words + read. */
 quernbrae_done quernbrae_run_up(const uint32_t *words, size_t words_len,
                                 quernbrae_record *table, size_t table_len,
                                 uint32_t *out, size_t out_len);
 
-/* One call down: translates the packet at the start of words. It needs no table.
- * Answers 2 to 9 change nothing; else only the words written differ. */
+/* One call down, for the packet at the start of words (docs/RULES.md, 8). There is no table.
+ * After answers 2 to 9 the output is as it was. After 0 the words written are the only change. */
 quernbrae_done quernbrae_down(const uint32_t *words, size_t words_len,
                               uint32_t *out, size_t out_len);
 
-/* A run down: every packet of words, until answer 3 or 9 stops it; 0 is "finished".
- * An output of twice the words is always long enough, here and for a run up. */
+/* A run down: a call for each packet, until the words end or answer 3 or 9 stops it (docs/RULES.md, 4).
+ * Going down or up, an output twice as long as the words never lacks room (9.3). */
 quernbrae_done quernbrae_run_down(const uint32_t *words, size_t words_len,
                                   uint32_t *out, size_t out_len);
 

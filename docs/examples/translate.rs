@@ -31,7 +31,9 @@ fn fresh_table() -> [Record; 256] {
 
 /// A run up over the words; the slices give the lengths, so that nothing is left to check.
 fn run_up(words: &[u32], table: &mut [Record], out: &mut [u32]) -> Done {
-    unsafe { quernbrae_run_up(words.as_ptr(), words.len(), table.as_mut_ptr(), table.len(), out.as_mut_ptr(), out.len()) }
+    unsafe {
+        quernbrae_run_up(words.as_ptr(), words.len(), table.as_mut_ptr(), table.len(), out.as_mut_ptr(), out.len())
+    }
 }
 
 fn run_down(words: &[u32], out: &mut [u32]) -> Done {

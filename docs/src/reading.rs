@@ -1,4 +1,4 @@
-//! Translates streams of Universal MIDI Packets up (MIDI 1.0 to MIDI 2.0) and down.
+//! The translation of Universal MIDI Packets, from MIDI 1.0 up to MIDI 2.0 and back down.
 //! Read from the build specification and M2-104-UM 1.1.1, sections 7.2 to 7.7 and Appendix D.
 
 #[cfg(test)]

@@ -5,36 +5,54 @@ use reading::{empty, size, Done, Record};
 use std::time::{Duration, Instant};
 
 const WORDS: usize = 1_000_000;
-const REPETITIONS: usize = 15;
+const ROUNDS: usize = 30;
+
+/// The words go through in pieces: few of them are interrupted, and each has its own best time.
+/// A packet that a piece cuts is the first of the next, so one piece more takes what is left.
+const PIECE: usize = 2_000;
+const PIECES: usize = WORDS / PIECE + 1;
 
 type RunUp = fn(&[u32], &mut [Record], &mut [u32]) -> Done;
+type Best = [Duration; PIECES];
 
-/// Times both sides in turn and prints a row for each mix: its name, then the best milliseconds
-/// of the product and of the reading.
+/// Times both sides in turn, in each round the other one first, and prints a row for each mix: its
+/// name, then the best nanoseconds a word of the product and of the reading.
 pub fn compare(product: RunUp, reading: RunUp) {
+    let sides = [product, reading];
     let mut out = vec![0; 2 * WORDS];
-    for (mix, words) in [
-        ("random-mix", random_mix()),
-        ("played-music", played_music()),
-    ] {
-        let mut best = [Duration::MAX; 2];
-        for _ in 0..REPETITIONS {
-            for (side, run) in [product, reading].into_iter().enumerate() {
-                best[side] = best[side].min(time(run, &words, &mut out));
+    let mut mixes = [
+        ("random-mix", random_mix(), [[Duration::MAX; PIECES]; 2]),
+        ("played-music", played_music(), [[Duration::MAX; PIECES]; 2]),
+    ];
+    for round in 0..ROUNDS {
+        for (_, words, best) in &mut mixes {
+            for side in [round % 2, 1 - round % 2] {
+                time(sides[side], words, &mut out, &mut best[side]);
             }
         }
-        let [product, reading] = best.map(|time| time.as_secs_f64() * 1000.0);
-        println!("{} {:.3} {:.3}", mix, product, reading);
+    }
+    for (mix, _, best) in mixes {
+        let [product, reading] = best.map(nanoseconds_a_word);
+        println!("{} {:.4} {:.4}", mix, product, reading);
     }
 }
 
-fn time(run: RunUp, words: &[u32], out: &mut [u32]) -> Duration {
+fn nanoseconds_a_word(best: Best) -> f64 {
+    best.iter().sum::<Duration>().as_secs_f64() * 1e9 / WORDS as f64
+}
+
+fn time(run: RunUp, words: &[u32], out: &mut [u32], best: &mut Best) {
     let mut table = [empty(); 256];
-    let start = Instant::now();
-    let done = run(words, &mut table, out);
-    let time = start.elapsed();
-    assert_eq!((done.answer, done.read), (reading::SENT, words.len()));
-    time
+    let (mut read, mut written) = (0, 0);
+    for best in best {
+        let end = words.len().min(read + PIECE);
+        let start = Instant::now();
+        let done = run(&words[read..end], &mut table, &mut out[written..]);
+        *best = start.elapsed().min(*best);
+        read += done.read;
+        written += done.written;
+    }
+    assert_eq!(read, words.len());
 }
 
 /// Packets of all sorts, some of them refused.

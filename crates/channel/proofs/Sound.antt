@@ -1,96 +1,140 @@
 -- Soundness: the short tree that the code asks is the row of the definition, and each method keeps it. Assumes nothing.
 use mathlib.Core.Path.{_≡_, refl, sym, _∙_}
 use mathlib.Core.Bool.{Bool, true, false, false≢true, cond, not, _&&_, _||_}
-use Prim.Native.Nat.{ℕ, _≤_}
-use lib.Dec.{eqb, leb}
+use Prim.Native.Nat.{ℕ, _≤_, _<_}
+use lib.Dec.{eqb, leb, ltb}
 use native.Mathlib.Omega.{arith}
-use borrow.Author.Tests.{eq-eqb, le-leb, leb-true, ne-eqb, not-true}
+use borrow.Author.Tests.{eq-eqb, eqb-false, eqb-true, le-leb, le-ltb, leb-true, lt-leb, lt-ltb, ltb-false, ltb-true, ne-eqb, not-true}
+use Rattle.ground.proofs.Cases.{by-bool}
 use Rattle.channel.specs.declared.Record.{Record}
 use Rattle.channel.specs.Record.{StaysSound, addressed, complete, dataHighPresent, kept, null, number, present, sound, withAddressBank, withAddressIndex, withBankHigh, withBankLow, withBankSpent, withDataHigh}
-use Rattle.ground.proofs.Bools.{and-left, and-right, bools}
+use Rattle.ground.proofs.Bools.{and-false, and-left, and-right, bools}
 
--- The tree of the code, way by way, over the tests. `m`: the bank halves are numbers; `l` and `z`: the kind is at most 2, is none; `p` and `x`: the
--- address bank is at most 127, is missing; `q` and `y`: the index; `n` and `d`: data high; `u`: the address is null.
+-- The tree of the code, way by way, over the tests. `m`: the bank halves are numbers; `l` and `z`: the kind is at most 2, is
+-- none; `p` and `x`: the address bank is at most 127, is missing; `q` and `y`: the index; `n` and `d`: data high; `u`: the
+-- address is null.
 row : (m l z p x q y n d u : Bool) → Bool
 row m l z p x q y n d u =
-    m && ((l && ((p || x) && ((q || y) && (n || d)))) && ((not z || not (not x || (not y || not d))) && (not (not d) || ((not z && (not x && not y)) && not u))))
+    m && ((l && ((p || x) && ((q || y) && (n || d))))
+    && ((not z || not (not x || (not y || not d))) && (not (not d) || ((not z && (not x && not y)) && not u))))
 
-none-way : (m l z p q n u : Bool) → row m l z p true q true n true u ≡ (l && m)
+none-way : (p x q y n d u : Bool) → row true true true p x q y n d u ≡ (x && (y && d))
 unfolding row
-none-way true true z p q n u = simp bools
-none-way true false z p q n u = simp bools
-none-way false true z p q n u = simp bools
-none-way false false z p q n u = simp bools
+none-way p true q true n true u = simp bools
+none-way p true q true n false u = simp bools
+none-way p true q false n d u = simp bools
+none-way p false q y n d u = simp bools
 
-bare-way : (m l p x q y n d u : Bool) → (x && y && d) ≡ false → row m l true p x q y n d u ≡ false
+kind-way : (p x q y n u : Bool) → row true true false p x q y n true u ≡ ((p || x) && (q || y))
 unfolding row
-bare-way m l p true q true n true u h = absurd (false≢true (sym h))
-bare-way m l p true q true n false u h = simp bools
-bare-way m l p true q false n d u h = simp bools
-bare-way m l p false q y n d u h = simp bools
+kind-way p x q y n u = simp bools
 
-kind-way : (m l p x q y n u : Bool) → row m l false p x q y n true u ≡ ((l && m) && ((p || x) && (q || y)))
+-- with data high, of an address whose numbers are either at most 127 or missing and never both
+data-way : (p x q y u : Bool) → row true true false p x q y true false u ≡ ((p || x) && ((q || y) && ((not x && not y) && not u)))
 unfolding row
-kind-way true true p x q y n u = simp bools
-kind-way true false p x q y n u = simp bools
-kind-way false true p x q y n u = refl
-kind-way false false p x q y n u = refl
+data-way true x true y u = refl
+data-way true x false true u = simp bools
+data-way true x false false u = simp bools
+data-way false true q y u = simp bools
+data-way false false q y u = simp bools
 
-data-way : (m l n u : Bool) → row m l false true false true false n false u ≡ ((l && m) && (n && not u))
-unfolding row
-data-way true true n u = simp bools
-data-way true false n u = simp bools
-data-way false true n u = refl
-data-way false false n u = refl
+small-way : (p x q y : Bool) → (p && x) ≡ false → (q && y) ≡ false → ((p || x) && ((q || y) && ((not x && not y) && not false))) ≡ (p && q)
+small-way true true q y h k = absurd (false≢true (sym h))
+small-way true false true true h k = absurd (false≢true (sym k))
+small-way true false true false h k = refl
+small-way true false false true h k = refl
+small-way true false false false h k = refl
+small-way false true true y h k = refl
+small-way false true false true h k = refl
+small-way false true false false h k = refl
+small-way false false q y h k = refl
 
-short-way : (m l z p x q y n u : Bool) → (p && q) ≡ false → row m l z p x q y n false u ≡ false
-unfolding row
-short-way m l z true x true y n u h = absurd (false≢true (sym h))
-short-way m l z true x false true n u h = simp bools
-short-way m l z true x false false n u h = simp bools
-short-way m l z false true q y n u h = simp bools
-short-way m l z false false q y n u h = simp bools
-
-unfoldable pub fine : Record → Bool
-fine r = leb (r .kind) 2 && (number (r .«bank_high») && number (r .«bank_low»))
+not-both-of : (n : ℕ) → (leb n 127 && eqb n 255) ≡ false
+not-both-of n = by-bool (leb n 127) (λ e. rw (e, ne-eqb n 255 (λ f. omega (arith, leb-true n 127 e, f)))) (λ e. rw e)
 
 module _ (r : Record) where
   -- soundness is the row
-  rowed : (z x y d : Bool) → eqb (r .kind) 0 ≡ z → eqb (r .«address_bank») 255 ≡ x → eqb (r .«address_index») 255 ≡ y → eqb (r .«data_high») 255 ≡ d
-      → sound r
-      ≡ row (number (r .«bank_high») && number (r .«bank_low»)) (leb (r .kind) 2) z (leb (r .«address_bank») 127) x (leb (r .«address_index») 127) y (leb (r .«data_high») 127) d (null r)
+  rowed : (m l z n d : Bool) → (number (r .«bank_high») && number (r .«bank_low»)) ≡ m → leb (r .kind) 2 ≡ l
+      → eqb (r .kind) 0 ≡ z → leb (r .«data_high») 127 ≡ n → eqb (r .«data_high») 255 ≡ d
+      → sound r ≡ row m l z (leb (r .«address_bank») 127) (eqb (r .«address_bank») 255) (leb (r .«address_index») 127)
+      (eqb (r .«address_index») 255) n d (null r)
   unfolding sound row
-  rowed z x y d e f g h = rw (← e, ← f, ← g, ← h)
+  rowed m l z n d e f g h k = rw (← e, ← f, ← g, ← h, ← k)
 
-  pub sound-none : (eqb (r .«address_bank») 255 && eqb (r .«address_index») 255 && eqb (r .«data_high») 255) ≡ true → sound r ≡ fine r
-  unfolding fine
-  sound-none h =
-      let b = eqb (r .«address_bank») 255 in
-      let i = eqb (r .«address_index») 255 in
-      let d = eqb (r .«data_high») 255 in
-      let f = and-left (b && i) d h in
-      rowed _ true true true refl (and-left b i f) (and-right b i f) (and-right (b && i) d h) ∙ none-way _ _ _ _ _ _ _
+  pub sound-banks : (number (r .«bank_high») && number (r .«bank_low»)) ≡ false → sound r ≡ false
+  unfolding row
+  sound-banks m = rowed false _ _ _ _ m refl refl refl refl
 
-  pub sound-bare : (eqb (r .«address_bank») 255 && eqb (r .«address_index») 255 && eqb (r .«data_high») 255) ≡ false → r .kind ≡ 0 → sound r ≡ false
-  sound-bare h k = rowed true _ _ _ (eq-eqb (r .kind) 0 k) refl refl refl ∙ bare-way _ _ _ _ _ _ _ _ _ h
+  module _ (m : (number (r .«bank_high») && number (r .«bank_low»)) ≡ true) where
+    pub sound-none : r .kind ≡ 0
+        → sound r ≡ (eqb (r .«address_bank») 255 && (eqb (r .«address_index») 255 && eqb (r .«data_high») 255))
+    sound-none k =
+        rowed true true true _ _ m (le-leb (r .kind) 2 (omega (arith, k))) (eq-eqb (r .kind) 0 k) refl refl ∙ none-way _ _ _ _ _ _ _
 
-  pub sound-kind : (r .kind ≡ 0 → ⊥) → r .«data_high» ≡ 255 → sound r ≡ (fine r && (number (r .«address_bank») && number (r .«address_index»)))
-  unfolding fine
-  sound-kind k h = rowed false _ _ true (ne-eqb (r .kind) 0 k) refl refl (eq-eqb (r .«data_high») 255 h) ∙ kind-way _ _ _ _ _ _ _ _
+    pub sound-kind : 2 < r .kind → sound r ≡ false
+    unfolding row
+    sound-kind k = rowed true false _ _ _ m (lt-leb (r .kind) 2 k) refl refl refl
 
-  pub sound-data : (r .kind ≡ 0 → ⊥) → (r .«data_high» ≡ 255 → ⊥) → (leb (r .«address_bank») 127 && leb (r .«address_index») 127) ≡ true
-      → sound r ≡ (fine r && (leb (r .«data_high») 127 && not (null r)))
-  unfolding fine
-  sound-data k h t =
-      let b = and-left (leb (r .«address_bank») 127) (leb (r .«address_index») 127) t in
-      let i = and-right (leb (r .«address_bank») 127) (leb (r .«address_index») 127) t in
-      let bn = leb-true (r .«address_bank») 127 b in
-      let im = leb-true (r .«address_index») 127 i in
-      rowed false false false false (ne-eqb (r .kind) 0 k) (ne-eqb (r .«address_bank») 255 (λ e. omega arith)) (ne-eqb (r .«address_index») 255 (λ e. omega arith)) (ne-eqb (r .«data_high») 255 h)
-      ∙ rw (b, i) (data-way _ _ _ _)
+    module _ (some : r .kind ≡ 0 → ⊥) (known : r .kind ≤ 2) where
+      pub sound-open : r .«data_high» ≡ 255 → sound r ≡ (number (r .«address_bank») && number (r .«address_index»))
+      sound-open d =
+          rowed true true false _ true m (le-leb (r .kind) 2 known) (ne-eqb (r .kind) 0 some) refl (eq-eqb (r .«data_high») 255 d)
+          ∙ kind-way _ _ _ _ _ _
 
-  pub sound-short : (r .«data_high» ≡ 255 → ⊥) → (leb (r .«address_bank») 127 && leb (r .«address_index») 127) ≡ false → sound r ≡ false
-  sound-short h t = rowed _ _ _ false refl refl refl (ne-eqb (r .«data_high») 255 h) ∙ short-way _ _ _ _ _ _ _ _ _ t
+      module _ (missing : r .«data_high» ≡ 255 → ⊥) where
+        pub sound-above : 127 < r .«data_high» → sound r ≡ false
+        unfolding row
+        sound-above n =
+            rowed true true false false false m (le-leb (r .kind) 2 known) (ne-eqb (r .kind) 0 some) (lt-leb (r .«data_high») 127 n)
+            (ne-eqb (r .«data_high») 255 missing)
+            ∙ simp bools
+
+        module _ (n : r .«data_high» ≤ 127) where
+          given : sound r
+              ≡ ((leb (r .«address_bank») 127 || eqb (r .«address_bank») 255)
+              && ((leb (r .«address_index») 127 || eqb (r .«address_index») 255)
+              && ((not (eqb (r .«address_bank») 255) && not (eqb (r .«address_index») 255)) && not (null r))))
+          given =
+              rowed true true false true false m (le-leb (r .kind) 2 known) (ne-eqb (r .kind) 0 some) (le-leb (r .«data_high») 127 n)
+              (ne-eqb (r .«data_high») 255 missing)
+              ∙ data-way _ _ _ _ _
+
+          pub sound-small : (r .«address_bank» ≡ 127 → ⊥)
+              → sound r ≡ (leb (r .«address_bank») 127 && leb (r .«address_index») 127)
+          sound-small b =
+              let u : null r ≡ false = rw (ne-eqb (r .«address_bank») 127 b) (and-false (eqb (r .kind) 1)) in
+              given ∙ rw u (small-way (leb (r .«address_bank») 127) (eqb (r .«address_bank») 255) (leb (r .«address_index») 127) (eqb (r .«address_index») 255) (not-both-of (r .«address_bank»)) (not-both-of (r .«address_index»)))
+
+          pub sound-null : r .«address_bank» ≡ 127
+              → sound r ≡ (ltb (r .«address_index») 127 || (eqb (r .«address_index») 127 && eqb (r .kind) 2))
+          sound-null b =
+              given ∙ by-bool (ltb (r .«address_index») 127) (λ e. below (ltb-true (r .«address_index») 127 e))
+              (λ e. by-bool (eqb (r .«address_index») 127) (λ f. exact (eqb-true (r .«address_index») 127 f)) (λ f. beyond (ltb-false (r .«address_index») 127 e) (eqb-false (r .«address_index») 127 f)))
+            where
+              goal : Type 0
+              goal = ((leb (r .«address_bank») 127 || eqb (r .«address_bank») 255)
+                  && ((leb (r .«address_index») 127 || eqb (r .«address_index») 255)
+                  && ((not (eqb (r .«address_bank») 255) && not (eqb (r .«address_index») 255)) && not (null r))))
+                  ≡ (ltb (r .«address_index») 127 || (eqb (r .«address_index») 127 && eqb (r .kind) 2))
+
+              below : r .«address_index» < 127 → goal
+              below h = rw (b, le-leb (r .«address_index») 127 (omega (arith, h)), ne-eqb (r .«address_index») 255 (λ e. omega (arith, h, e)), ne-eqb (r .«address_index») 127 (λ e. omega (arith, h, e)), lt-ltb (r .«address_index») 127 h, and-false (eqb (r .kind) 1))
+
+              exact : r .«address_index» ≡ 127 → goal
+              exact h = rw (b, h) (kinds (eqb (r .kind) 1) refl)
+                where
+                  kinds : (k : Bool) → eqb (r .kind) 1 ≡ k → not (k && true) ≡ eqb (r .kind) 2
+                  kinds true e = rw (eqb-true (r .kind) 1 e)
+                  kinds false e = sym (eq-eqb (r .kind) 2 (omega (arith, some, known, eqb-false (r .kind) 1 e)))
+
+              beyond : 127 ≤ r .«address_index» → (r .«address_index» ≡ 127 → ⊥) → goal
+              beyond h k =
+                  rw (b, lt-leb (r .«address_index») 127 (omega (arith, h, k)), ne-eqb (r .«address_index») 127 k, le-ltb (r .«address_index») 127 h)
+                  (gone (eqb (r .«address_index») 255))
+                where
+                  gone : (y : Bool) → (y && (not y && not (eqb (r .kind) 1 && false))) ≡ false
+                  gone true = refl
+                  gone false = refl
 
 -- the parts of soundness
 pub record Parts (r : Record) : Type 0 where

@@ -1,6 +1,6 @@
 -- Rows of tests: what a row of `and` says of its parts, and the ends of rows. Assumes nothing.
-use mathlib.Core.Path.{_≡_, refl}
-use mathlib.Core.Bool.{Bool, true, false, _&&_, _||_}
+use mathlib.Core.Path.{_≡_, refl, sym}
+use mathlib.Core.Bool.{Bool, true, false, false≢true, _&&_, _||_}
 
 pub and-left : (a b : Bool) → (a && b) ≡ true → a ≡ true
 and-left true b h = refl
@@ -27,3 +27,11 @@ or-false true = refl
 or-false false = refl
 
 pub ruleset bools = (and-true, and-false, or-true, or-false)
+
+pub neither-left : (a b : Bool) → (a || b) ≡ false → a ≡ false
+neither-left true b h = h
+neither-left false b h = refl
+
+pub neither-right : (a b : Bool) → (a || b) ≡ false → b ≡ false
+neither-right true b h = absurd (false≢true (sym h))
+neither-right false b h = h

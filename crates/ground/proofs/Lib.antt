@@ -4,4 +4,5 @@ pub mod More
 pub mod Walk
 pub mod Post
 pub mod Again
+pub mod Tests
 pub mod StoreLaws

@@ -12,6 +12,7 @@ use ump::data1;
 use ump::data2;
 use ump::status;
 ghost use mathlib.Core.Path.{_≡_};
+ghost use mathlib.Core.Bool.{false};
 ghost use Prim.Native.Nat.{_+_, _*_, _%_, _^_};
 ghost use Rattle.scale.specs.Scale.{up};
 ghost use Rattle.ump.specs.Word.{channelOf, groupOf, voice2};
@@ -91,7 +92,8 @@ fn control_of(i: u8) -> Control
         98 => Control::AssignableIndex,
         6 => Control::DataHigh,
         38 => Control::DataLow,
-        96 | 97 => Control::Nothing,
+        96 => Control::Nothing,
+        97 => Control::Nothing,
         _ => Control::Plain,
     }
 }
@@ -160,7 +162,7 @@ fn controlled(control: Control, record: Record, w: u32) -> UpwardMessage
 }
 
 // One test parts the controllers that are sent as themselves from those that are not.
-fn control(record: Record, w: u32) -> UpwardMessage
+fn control_change(record: Record, w: u32) -> UpwardMessage
     ensures { λ r. ⌜ r ≡ controlIn w (Lift.changing (controlOf (Word.data1 w))) (Lift.controlled (controlOf (Word.data1 w)) «record» (Word.data1 w) (Word.data2 w)) ⌝ }
 {
     let i = data1(w);
@@ -223,7 +225,7 @@ pub fn lifted(record: Record, w: u32) -> UpwardMessage
     }
     match s {
         10 => sent_up(record, false, 10, data1(w), 0, w, seven(data2(w))),
-        11 => control(record, w),
+        11 => control_change(record, w),
         12 => program(record, w),
         13 => sent_up(record, false, 13, 0, 0, w, seven(data1(w))),
         _ => sent_up(record, false, 14, 0, 0, w, fourteen(data2(w), data1(w))),

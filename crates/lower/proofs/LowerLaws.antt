@@ -1,7 +1,8 @@
 -- Going down: the statuses without a form, and that at most four messages come of one. Assumes nothing.
 use mathlib.Core.Bool.{Bool, true, false, cond, _&&_}
 use mathlib.Core.List.{[], _∷_}
-use mathlib.Core.Path.{_≡_, refl}
+use mathlib.Core.Path.{_≡_, refl, sym, ap, _∙_}
+use borrow.Author.Tests.{ne-eqb}
 use Prim.Native.Nat.{ℕ, _≤_}
 use native.Mathlib.Omega.{arith}
 use lib.Dec.{eqb}
@@ -15,15 +16,16 @@ use Rattle.message.specs.Message.{registeredPerNote2, relativeAssignable2, rela
 use Rattle.lower.specs.Lower.{entered, lower}
 
 -- the statuses that have no form: 0, 1, 4, 5, 6 and F
-pub formless-status : (w v : ℕ) → eqb (status w) 2 ≡ false → eqb (status w) 3 ≡ false → eqb (status w) 8 ≡ false
-    → eqb (status w) 9 ≡ false → eqb (status w) 10 ≡ false
-    → eqb (status w) 11 ≡ false → eqb (status w) 12 ≡ false → eqb (status w) 13 ≡ false → eqb (status w) 14 ≡ false
-    → lower (read2 w v) ≡ []
+pub formless-status : (w v s : ℕ) → s ≡ status w → (s ≡ 2 → ⊥) → (s ≡ 3 → ⊥) → (s ≡ 8 → ⊥) → (s ≡ 9 → ⊥) → (s ≡ 10 → ⊥)
+    → (s ≡ 11 → ⊥) → (s ≡ 12 → ⊥) → (s ≡ 13 → ⊥) → (s ≡ 14 → ⊥) → lower (read2 w v) ≡ []
 unfolding read2 lower
-formless-status w v e2 e3 e8 e9 e10 e11 e12 e13 e14 =
-    rw (e2, e3, e8, e9, e10, e11, e12, e13, e14)
+formless-status w v s e n2 n3 n8 n9 n10 n11 n12 n13 n14 =
+    rw (is-not 2 n2, is-not 3 n3, is-not 8 n8, is-not 9 n9, is-not 10 n10, is-not 11 n11, is-not 12 n12, is-not 13 n13, is-not 14 n14)
     (go (eqb (status w) 0) (eqb (status w) 1) (eqb (status w) 4) (eqb (status w) 5) (eqb (status w) 6))
   where
+    is-not : (k : ℕ) → (s ≡ k → ⊥) → eqb (status w) k ≡ false
+    is-not k n = ap (λ (x : ℕ). eqb x k) (sym e) ∙ ne-eqb s k n
+
     go : (a b c d e : Bool)
         → lower (cond a (registeredPerNote2 (byte3 w) (byte4 w) v)
         (cond b (assignablePerNote2 (byte3 w) (byte4 w) v)

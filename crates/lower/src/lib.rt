@@ -72,7 +72,7 @@ fn one_word(status: u32, a: u8, b: u8, w: u32) -> UpToFourWords
 }
 
 // A control change of the packet that starts with w.
-fn control(index: u8, value: u8, w: u32) -> u32
+fn control_word(index: u8, value: u8, w: u32) -> u32
     ensures { λ r. ⌜ r ≡ write1 (groupOf w) (channelOf w) (controlChange1 index value) ⌝ }
 {
     voice_word(MIDI1_VOICE, 11, index, value, w)
@@ -85,10 +85,10 @@ fn entered_by(bank_control: u8, index_control: u8, w: u32, v: u32) -> UpToFourWo
     let value = scale::down_32_to_14(v);
     UpToFourWords {
         count: 4,
-        first: control(bank_control, byte3(w), w),
-        second: control(index_control, byte4(w), w),
-        third: control(6, (value / 0x80) as u8, w),
-        fourth: control(38, (value % 0x80) as u8, w),
+        first: control_word(bank_control, byte3(w), w),
+        second: control_word(index_control, byte4(w), w),
+        third: control_word(6, (value / 0x80) as u8, w),
+        fourth: control_word(38, (value % 0x80) as u8, w),
     }
 }
 
@@ -99,8 +99,8 @@ fn program_down(w: u32, v: u32) -> UpToFourWords
     if has_bank(w) {
         UpToFourWords {
             count: 3,
-            first: control(0, byte3(v), w),
-            second: control(32, byte4(v), w),
+            first: control_word(0, byte3(v), w),
+            second: control_word(32, byte4(v), w),
             third: voice_word(MIDI1_VOICE, 12, byte1(v), 0, w),
             fourth: 0,
         }

@@ -15,8 +15,7 @@ pub fn voice_word(t: u32, status: u32, a: u8, b: u8, w: u32) -> u32
     let g = ump::group_of(w);
     let c = ump::channel_of(w);
     let head = t % 0x10 * 0x1000_0000 + (g.0 as u32) * 0x100_0000;
-    let channel = status % 0x10 * 0x10_0000 + (c.0 as u32) * 0x1_0000;
-    head + channel + (a as u32) * 0x100 + b as u32
+    head + status % 0x10 * 0x10_0000 + (c.0 as u32) * 0x1_0000 + (a as u32) * 0x100 + b as u32
 }
 
 // Whether a controller is only a part of a message: of a bank, of an address, or of the data that

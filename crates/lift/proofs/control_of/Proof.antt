@@ -1,6 +1,6 @@
--- `lift::control_of` meets its contract, test by test. Assumes nothing.
+-- `lift::control_of` meets its contract: test by test, in the definition's order. Assumes nothing.
 use Rattle.lift.specs.Lift.{controlOf}
-use borrow.Author.Tests.{eq-eqb, ne-eqb}
+use Rattle.ground.proofs.Tests.{tests}
 use Rattle.lift.proofs.control_of.Statement.{statement}
 use Rattle.lift.proofs.control_of.Tie as tie
 
@@ -9,13 +9,14 @@ unfolding controlOf
 control-of-spec =
     tie.close
     (tie.spec
-    (λ c. simp (eq-eqb _ _ (c .if1 .taken)))
-    (λ c. simp (eq-eqb _ _ (c .if2 .taken), ne-eqb _ _ (c .before .if1 .left)))
-    (λ c. simp (eq-eqb _ _ (c .if3 .taken), ne-eqb _ _ (c .before .if2 .left), ne-eqb _ _ (c .before .before .if1 .left)))
-    (λ c. simp (eq-eqb _ _ (c .if4 .taken), ne-eqb _ _ (c .before .if3 .left), ne-eqb _ _ (c .before .before .if2 .left), ne-eqb _ _ (c .before .before .before .if1 .left)))
-    (λ c. simp (eq-eqb _ _ (c .if5 .taken), ne-eqb _ _ (c .before .if4 .left), ne-eqb _ _ (c .before .before .if3 .left), ne-eqb _ _ (c .before .before .before .if2 .left), ne-eqb _ _ (c .before .before .before .before .if1 .left)))
-    (λ c. simp (eq-eqb _ _ (c .if6 .taken), ne-eqb _ _ (c .before .if5 .left), ne-eqb _ _ (c .before .before .if4 .left), ne-eqb _ _ (c .before .before .before .if3 .left), ne-eqb _ _ (c .before .before .before .before .if2 .left), ne-eqb _ _ (c .before .before .before .before .before .if1 .left)))
-    (λ c. simp (eq-eqb _ _ (c .if7 .taken), ne-eqb _ _ (c .before .if6 .left), ne-eqb _ _ (c .before .before .if5 .left), ne-eqb _ _ (c .before .before .before .if4 .left), ne-eqb _ _ (c .before .before .before .before .if3 .left), ne-eqb _ _ (c .before .before .before .before .before .if2 .left), ne-eqb _ _ (c .before .before .before .before .before .before .if1 .left)))
-    (λ c. simp (eq-eqb _ _ (c .if8 .taken), ne-eqb _ _ (c .before .if7 .left), ne-eqb _ _ (c .before .before .if6 .left), ne-eqb _ _ (c .before .before .before .if5 .left), ne-eqb _ _ (c .before .before .before .before .if4 .left), ne-eqb _ _ (c .before .before .before .before .before .if3 .left), ne-eqb _ _ (c .before .before .before .before .before .before .if2 .left), ne-eqb _ _ (c .before .before .before .before .before .before .before .if1 .left)))
-    (λ c. simp (c .if9 .taken, ne-eqb _ _ (c .before .if8 .left), ne-eqb _ _ (c .before .before .if7 .left), ne-eqb _ _ (c .before .before .before .if6 .left), ne-eqb _ _ (c .before .before .before .before .if5 .left), ne-eqb _ _ (c .before .before .before .before .before .if4 .left), ne-eqb _ _ (c .before .before .before .before .before .before .if3 .left), ne-eqb _ _ (c .before .before .before .before .before .before .before .if2 .left), ne-eqb _ _ (c .before .before .before .before .before .before .before .before .if1 .left)))
-    (λ c. simp (c .if9 .left, ne-eqb _ _ (c .before .if8 .left), ne-eqb _ _ (c .before .before .if7 .left), ne-eqb _ _ (c .before .before .before .if6 .left), ne-eqb _ _ (c .before .before .before .before .if5 .left), ne-eqb _ _ (c .before .before .before .before .before .if4 .left), ne-eqb _ _ (c .before .before .before .before .before .before .if3 .left), ne-eqb _ _ (c .before .before .before .before .before .before .before .if2 .left), ne-eqb _ _ (c .before .before .before .before .before .before .before .before .if1 .left))))
+    (λ c. simp (c .match .keys1))
+    (λ c. simp (c .match .keys2))
+    (λ c. simp (c .match .keys3))
+    (λ c. simp (c .match .keys4))
+    (λ c. simp (c .match .keys5))
+    (λ c. simp (c .match .keys6))
+    (λ c. simp (c .match .keys7))
+    (λ c. simp (c .match .keys8))
+    (λ c. simp (c .match .keys9))
+    (λ c. simp (c .match .keys10))
+    (λ c. simp (tests, c .match .rest .1, c .match .rest .0 .1, c .match .rest .0 .0 .1, c .match .rest .0 .0 .0 .1, c .match .rest .0 .0 .0 .0 .1, c .match .rest .0 .0 .0 .0 .0 .1, c .match .rest .0 .0 .0 .0 .0 .0 .1, c .match .rest .0 .0 .0 .0 .0 .0 .0 .1, c .match .rest .0 .0 .0 .0 .0 .0 .0 .0 .1, c .match .rest .0 .0 .0 .0 .0 .0 .0 .0 .0 .1)))

@@ -1,13 +1,13 @@
--- `lift::data_low` meets its contract: with data high present, the record's kind decides between statuses 2 and 3. Assumes nothing.
-use borrow.Author.Tests.{eq-eqb, ne-eqb}
-use Rattle.message.specs.Message.{first2, second2}
+-- `lift::data_low` meets its contract: it sends exactly where data high is present. Assumes nothing.
 use Rattle.lift.specs.Lift.{addressed2, dataLow}
+use Rattle.ground.proofs.Tests.{tests}
+use Rattle.message.specs.Message.{first2, second2}
 use borrow.Author.Needs.{needs}
 use Rattle.lift.proofs.data_low.Statement.{statement}
 use Rattle.lift.proofs.data_low.Tie as tie
 
 pub data-low-spec : {M : Type 1} → statement M
-unfolding dataLow addressed2 first2 second2
+unfolding addressed2 dataLow first2 second2
 data-low-spec =
     tie.close
     (tie.spec
@@ -16,6 +16,7 @@ data-low-spec =
     (λ c κs. search needs)
     (λ c κs. search needs)
     (λ c κs. search needs)
-    (λ c. simp (c .sent-up .ensures, eq-eqb _ _ (c .before .if2 .taken), c .before .before .before .fourteen .ensures, ← c .before .before .before .before .before .data-high-present .ensures, c .before .before .before .before .if1 .taken))
-    (λ c. simp (c .sent-up2 .ensures, ne-eqb _ _ (c .before .if2 .left), c .before .before .before .fourteen .ensures, ← c .before .before .before .before .before .data-high-present .ensures, c .before .before .before .before .if1 .taken))
-    (λ c. simp (c .taken-in .ensures, ← c .before .before .data-high-present .ensures, c .before .if1 .left)))
+    (λ c κs. search needs)
+    (λ c. simp (tests, c .sent-up .ensures, c .before .if2 .taken, c .before .before .struct-known .given .1, c .before .before .before .fourteen .ensures, c .before .before .before .before .data2 .ensures, c .before .before .before .before .before .if1 .taken, ← c .before .before .before .before .before .before .data-high-present .ensures))
+    (λ c. simp (tests, c .sent-up2 .ensures, c .before .if2 .left, c .before .before .struct-known .given .1, c .before .before .before .fourteen .ensures, c .before .before .before .before .data2 .ensures, c .before .before .before .before .before .if1 .taken, ← c .before .before .before .before .before .before .data-high-present .ensures))
+    (λ c. simp (tests, c .taken-in .ensures, c .before .if1 .left, ← c .before .before .data-high-present .ensures)))

@@ -1,24 +1,25 @@
--- `lift::lifted` meets its contract, status by status. Assumes nothing.
-use mathlib.Core.Path.{_≡_}
-use Prim.Native.Nat.{ℕ, _+_, _*_, _/_, _%_, _^_}
-use native.Mathlib.Omega.{arith}
-use Rattle.lift.specs.Lift.{lift}
-use Rattle.message.specs.Message.{first2, second2, read1}
-use borrow.Author.Tests.{ne-eqb}
+-- `lift::lifted` meets its contract: status by status; the notes by one row. Assumes nothing.
+use Rattle.ground.proofs.Tests.{tests}
+use Rattle.lift.specs.Lift.{changes, lift}
+use Rattle.message.specs.Message.{first2, read1, second2}
+use Rattle.ump.proofs.FieldLaws.{seven-bits1, seven-bits2}
+use Rattle.lift.proofs.WayLaws.{bend-way, note-way}
+use Rattle.ground.proofs.Bools.{neither-left, neither-right}
+use lib.Dec.{eqb}
 use borrow.Author.Needs.{needs}
 use Rattle.lift.proofs.lifted.Statement.{statement}
 use Rattle.lift.proofs.lifted.Tie as tie
 
--- the halves of a pitch bend are inside the width of fourteen
-bend-fits : (w : ℕ) → (w % 128 * 128 + w / 256 % 128) % 2 ^ 14 ≡ w % 128 * 128 + w / 256 % 128
-bend-fits w = omega arith
-
 pub lifted-spec : {M : Type 1} → statement M
-unfolding first2 lift read1 second2
+unfolding changes first2 lift read1 second2
 lifted-spec =
     tie.close
     (tie.spec
-    (λ c. search needs)
+    (λ c κs. search needs)
+    (λ c κs. search needs)
+    (λ c. let w = c .before .before .before .args .w in
+    let r = c .before .before .before .args .«record» in
+    rw (c .note .ensures, c .before .before .status .ensures) (note-way w r (rw (c .before .before .status .ensures) at (c .before .if1 .taken))))
     (λ c κs. search needs)
     (λ c κs. search needs)
     (λ c κs. search needs)
@@ -29,13 +30,11 @@ lifted-spec =
     (λ c κs. search needs)
     (λ c κs. search needs)
     (λ c κs. search needs)
-    (λ c. search needs)
     (λ c κs. search needs)
     (λ c κs. search needs)
-    (λ c. simp (c .sent-up .ensures, c .before .velocity .ensures, c .before .before .match .keys1))
-    (λ c. simp (c .note-on .ensures, c .before .match .keys2))
-    (λ c. simp (c .sent-up2 .ensures, c .before .up-7-to-32 .ensures, c .before .before .match .keys3))
-    (λ c. simp (c .controlled .ensures, c .before .control-of .ensures, c .before .before .match .keys4))
-    (λ c. simp (c .program .ensures, c .before .match .keys5))
-    (λ c. simp (c .sent-up3 .ensures, c .before .up-7-to-322 .ensures, c .before .before .match .keys6))
-    (λ c. simp (c .sent-up4 .ensures, c .before .fourteen .ensures, bend-fits (c .before .before .before .args .w), ne-eqb _ _ (c .before .before .match .rest .1), ne-eqb _ _ (c .before .before .match .rest .0 .1), ne-eqb _ _ (c .before .before .match .rest .0 .0 .1), ne-eqb _ _ (c .before .before .match .rest .0 .0 .0 .1), ne-eqb _ _ (c .before .before .match .rest .0 .0 .0 .0 .1), ne-eqb _ _ (c .before .before .match .rest .0 .0 .0 .0 .0 .1))))
+    (λ c κs. search needs)
+    (λ c. simp (seven-bits1, seven-bits2, tests, c .sent-up .ensures, c .before .seven .ensures, c .before .before .data2 .ensures, c .before .before .before .data1 .ensures, c .before .before .before .before .match .keys1, c .before .before .before .before .before .if1 .left, ← c .before .before .before .before .before .before .status .ensures))
+    (λ c. simp (seven-bits1, seven-bits2, tests, c .control-change .ensures, c .before .match .keys2, c .before .before .if1 .left, ← c .before .before .before .status .ensures))
+    (λ c. simp (seven-bits1, seven-bits2, tests, c .program .ensures, c .before .match .keys3, c .before .before .if1 .left, ← c .before .before .before .status .ensures))
+    (λ c. simp (seven-bits1, seven-bits2, tests, c .sent-up2 .ensures, c .before .seven2 .ensures, c .before .before .data12 .ensures, c .before .before .before .match .keys4, c .before .before .before .before .if1 .left, ← c .before .before .before .before .before .status .ensures))
+    (λ c. simp (bend-way, tests, c .sent-up3 .ensures, c .before .fourteen .ensures, c .before .before .data13 .ensures, c .before .before .before .data22 .ensures, c .before .before .before .before .match .rest .1, c .before .before .before .before .match .rest .0 .1, c .before .before .before .before .match .rest .0 .0 .1, c .before .before .before .before .match .rest .0 .0 .0 .1, neither-left (eqb (c .before .before .before .before .before .before .status .result) 8) (eqb (c .before .before .before .before .before .before .status .result) 9) (c .before .before .before .before .before .if1 .left), neither-right (eqb (c .before .before .before .before .before .before .status .result) 8) (eqb (c .before .before .before .before .before .before .status .result) 9) (c .before .before .before .before .before .if1 .left), ← c .before .before .before .before .before .before .status .ensures)))

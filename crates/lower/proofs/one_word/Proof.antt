@@ -1,4 +1,4 @@
--- `lower::one_word` meets its contract: one word is built. Assumes nothing.
+-- `lower::one_word` meets its contract: the word is the one that the message is written with. Assumes nothing.
 use borrow.Author.Needs.{needs}
 use Rattle.lower.proofs.one_word.Statement.{statement}
 use Rattle.lower.proofs.one_word.Tie as tie

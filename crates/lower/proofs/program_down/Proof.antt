@@ -1,7 +1,7 @@
--- `lower::program_down` meets its contract: the bank flag decides between three words and one. Assumes nothing.
-use Rattle.message.specs.Message.{write1, bankOf}
+-- `lower::program_down` meets its contract: the flag decides whether the bank goes first. Assumes nothing.
+use Rattle.ground.proofs.Tests.{tests}
+use Rattle.message.specs.Message.{bankOf, write1}
 use Rattle.lower.specs.Lower.{lower}
-use borrow.Author.Tests.{eq-eqb, ne-eqb}
 use borrow.Author.Needs.{needs}
 use Rattle.lower.proofs.program_down.Statement.{statement}
 use Rattle.lower.proofs.program_down.Tie as tie
@@ -11,12 +11,14 @@ unfolding bankOf lower write1
 program-down-spec =
     tie.close
     (tie.spec
-    (λ c. search needs)
-    (λ c. search needs)
-    (λ c κs. search needs)
-    (λ c. search needs)
     (λ c κs. search needs)
     (λ c κs. search needs)
     (λ c κs. search needs)
-    (λ c. simp (c .voice-word3 .ensures, c .before .voice-word2 .ensures, c .before .before .voice-word .ensures, eq-eqb _ _ (c .before .before .before .if1 .taken)))
-    (λ c. simp (c .one-word .ensures, ne-eqb _ _ (c .before .if1 .left))))
+    (λ c κs. search needs)
+    (λ c κs. search needs)
+    (λ c κs. search needs)
+    (λ c κs. search needs)
+    (λ c κs. search needs)
+    (λ c κs. search needs)
+    (λ c. simp (tests, c .voice-word .ensures, c .before .byte1 .ensures, c .before .before .control-word2 .ensures, c .before .before .before .byte4 .ensures, c .before .before .before .before .control-word .ensures, c .before .before .before .before .before .byte3 .ensures, c .before .before .before .before .before .before .if1 .taken, ← c .before .before .before .before .before .before .before .has-bank .ensures))
+    (λ c. simp (tests, c .one-word .ensures, c .before .byte12 .ensures, c .before .before .if1 .left, ← c .before .before .before .has-bank .ensures)))

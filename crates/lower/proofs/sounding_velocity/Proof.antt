@@ -1,6 +1,6 @@
--- `lower::sounding_velocity` meets its contract: its test is the definition's. Assumes nothing.
+-- `lower::sounding_velocity` meets its contract: test by test. Assumes nothing.
 use Rattle.lower.specs.Lower.{sounding}
-use borrow.Author.Tests.{eq-eqb, ne-eqb}
+use Rattle.ground.proofs.Tests.{tests}
 use Rattle.lower.proofs.sounding_velocity.Statement.{statement}
 use Rattle.lower.proofs.sounding_velocity.Tie as tie
 
@@ -9,5 +9,5 @@ unfolding sounding
 sounding-velocity-spec =
     tie.close
     (tie.spec
-    (λ c. simp (eq-eqb _ _ (c .if1 .taken)))
-    (λ c. simp (ne-eqb _ _ (c .if1 .left))))
+    (λ c. simp (tests, c .if1 .taken))
+    (λ c. simp (tests, c .if1 .left)))

@@ -1,9 +1,9 @@
--- `checks::is_good_status` meets its contract, message type by message type. Assumes nothing.
-use Rattle.checks.specs.Check.{goodStatus}
-use borrow.Author.Tests.{ne-eqb}
+-- `screen::is_good_status` meets its contract: message type by message type. Assumes nothing.
+use Rattle.screen.specs.Check.{goodStatus}
+use Rattle.ground.proofs.Tests.{tests}
 use borrow.Author.Needs.{needs}
-use Rattle.checks.proofs.is_good_status.Statement.{statement}
-use Rattle.checks.proofs.is_good_status.Tie as tie
+use Rattle.screen.proofs.is_good_status.Statement.{statement}
+use Rattle.screen.proofs.is_good_status.Tie as tie
 
 pub is-good-status-spec : {M : Type 1} → statement M
 unfolding goodStatus
@@ -12,9 +12,14 @@ is-good-status-spec =
     (tie.spec
     (λ c κs. search needs)
     (λ c κs. search needs)
-    (λ c. simp (c .match .keys1))
-    (λ c. simp (c .is-system-status .ensures, c .before .match .keys2))
-    (λ c. simp (c .is-voice1-status .ensures, c .before .match .keys3))
-    (λ c. simp (c .match .keys4))
-    (λ c. simp (c .match .keys5))
-    (λ c. simp (ne-eqb _ _ (c .match .rest .1), ne-eqb _ _ (c .match .rest .0 .1), ne-eqb _ _ (c .match .rest .0 .0 .1), ne-eqb _ _ (c .match .rest .0 .0 .0 .1), ne-eqb _ _ (c .match .rest .0 .0 .0 .0 .1))))
+    (λ c κs. search needs)
+    (λ c κs. search needs)
+    (λ c κs. search needs)
+    (λ c κs. search needs)
+    (λ c κs. search needs)
+    (λ c. simp (← c .status .ensures, c .before .match .keys1, ← c .before .before .message-type .ensures))
+    (λ c. simp (← c .is-system-status .ensures, ← c .before .byte2 .ensures, c .before .before .match .keys2, ← c .before .before .before .message-type .ensures))
+    (λ c. simp (← c .is-voice1-status .ensures, c .before .match .keys3, ← c .before .before .message-type .ensures))
+    (λ c. simp (← c .status2 .ensures, c .before .match .keys4, ← c .before .before .message-type .ensures))
+    (λ c. simp (← c .status3 .ensures, c .before .match .keys5, ← c .before .before .message-type .ensures))
+    (λ c. simp (tests, c .match .rest .1, c .match .rest .0 .1, c .match .rest .0 .0 .1, c .match .rest .0 .0 .0 .1, c .match .rest .0 .0 .0 .0 .1, ← c .before .message-type .ensures)))

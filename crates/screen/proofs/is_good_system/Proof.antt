@@ -1,14 +1,19 @@
--- `checks::is_good_system` meets its contract: each way out has the fields of its status byte. Assumes nothing.
-use Rattle.checks.specs.Check.{systemFields, within}
-use borrow.Author.Tests.{eq-eqb, ne-eqb}
-use Rattle.checks.proofs.is_good_system.Statement.{statement}
-use Rattle.checks.proofs.is_good_system.Tie as tie
+-- `screen::is_good_system` meets its contract: each way out has the fields of its status byte. Assumes nothing.
+use Rattle.screen.specs.Check.{systemFields, goodFields}
+use Rattle.ground.proofs.Tests.{tests}
+use borrow.Author.Needs.{needs}
+use Rattle.screen.proofs.is_good_system.Statement.{statement}
+use Rattle.screen.proofs.is_good_system.Tie as tie
 
 pub is-good-system-spec : {M : Type 1} → statement M
-unfolding systemFields within
+unfolding goodFields systemFields
 is-good-system-spec =
     tie.close
     (tie.spec
-    (λ c. simp (c .if1 .taken))
-    (λ c. simp (eq-eqb _ _ (c .if2 .taken), c .before .if1 .left))
-    (λ c. simp (ne-eqb _ _ (c .if2 .left), c .before .if1 .left)))
+    (λ c κs. search needs)
+    (λ c κs. search needs)
+    (λ c. simp (tests, ← c .byte3 .ensures, c .before .if1 .taken, ← c .before .before .byte2 .ensures))
+    (λ c κs. search needs)
+    (λ c κs. search needs)
+    (λ c. simp (tests, ← c .byte4 .ensures, ← c .before .byte32 .ensures, c .before .before .if2 .taken, c .before .before .before .if1 .left, ← c .before .before .before .before .byte2 .ensures))
+    (λ c. simp (tests, c .if2 .left, c .before .if1 .left, ← c .before .before .byte2 .ensures)))

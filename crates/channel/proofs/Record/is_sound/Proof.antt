@@ -1,60 +1,45 @@
--- `channel::Record::is_sound` meets its contract: each way through the tree is one of the laws of proofs/Sound.antt. Assumes nothing.
+-- `channel::Record::is_sound` meets its contract: each way through its tree is what the definition's row comes to there.
+-- Assumes nothing.
 use mathlib.Core.Path.{sym}
-use Rattle.channel.proofs.Sound.{fine, sound-bare, sound-data, sound-kind, sound-none, sound-short}
+use native.Mathlib.Omega.{arith}
 use borrow.Author.Needs.{needs}
+use Rattle.channel.proofs.Sound.{sound-above, sound-banks, sound-kind, sound-none, sound-null, sound-open, sound-small}
 use Rattle.channel.proofs.Record.is_sound.Statement.{statement}
 use Rattle.channel.proofs.Record.is_sound.Tie as tie
 
-is-number-requires : tie.Need-is-number-requires
-is-number-requires c κs = search needs
-
-is-number-requires-2 : tie.Need-is-number-requires-2
-is-number-requires-2 c κs = search needs
-
 returns : tie.Need-returns
-unfolding fine
-returns c = simp (c .before .is-number2 .ensures, c .before .before .is-number .ensures) (sym (sound-none (c .before .before .before .args .self) (c .if1 .taken)))
+returns c = sym (sound-none _ (rw (c .before .before .is-number2 .ensures, c .before .before .before .is-number .ensures) at (c .before .if1 .taken)) (c .if2 .taken))
 
 returns-2 : tie.Need-returns-2
-unfolding fine
-returns-2 c = sym (sound-bare (c .before .before .before .before .args .self) (c .before .if1 .left) (c .if2 .taken))
-
-is-number-requires-3 : tie.Need-is-number-requires-3
-is-number-requires-3 c κs = search needs
-
-is-number-requires-4 : tie.Need-is-number-requires-4
-is-number-requires-4 c κs = search needs
+returns-2 c = sym (sound-kind _ (rw (c .before .before .before .is-number2 .ensures, c .before .before .before .before .is-number .ensures) at (c .before .before .if1 .taken)) (c .if3 .taken))
 
 returns-3 : tie.Need-returns-3
-unfolding fine
-returns-3 c =
-    simp (c .is-number4 .ensures, c .before .is-number3 .ensures, c .before .before .before .before .before .is-number2 .ensures, c .before .before .before .before .before .before .is-number .ensures)
-    (sym (sound-kind (c .before .before .before .before .before .before .before .args .self) (c .before .before .before .if2 .left) (c .before .before .if3 .taken)))
-
-address-null-requires : tie.Need-address-null-requires
-address-null-requires c κs = search needs
+returns-3 c = rw (c .is-number4 .ensures, c .before .is-number3 .ensures) (sym (sound-open _ (rw (c .before .before .before .before .before .before .is-number2 .ensures, c .before .before .before .before .before .before .before .is-number .ensures) at (c .before .before .before .before .before .if1 .taken)) (c .before .before .before .before .if2 .left) (omega (arith, c .before .before .before .if3 .left)) (c .before .before .if4 .taken)))
 
 returns-4 : tie.Need-returns-4
-unfolding fine
-returns-4 c =
-    simp (c .address-null .ensures, c .before .before .before .before .before .is-number2 .ensures, c .before .before .before .before .before .before .is-number .ensures)
-    (sym (sound-data (c .before .before .before .before .before .before .before .args .self) (c .before .before .before .if2 .left) (c .before .before .if3 .left) (c .before .if4 .taken)))
+returns-4 c = sym (sound-null _ (rw (c .before .before .before .before .before .before .is-number2 .ensures, c .before .before .before .before .before .before .before .is-number .ensures) at (c .before .before .before .before .before .if1 .taken)) (c .before .before .before .before .if2 .left) (omega (arith, c .before .before .before .if3 .left)) (c .before .before .if4 .left) (c .before .if5 .taken) (c .if6 .taken))
 
 returns-5 : tie.Need-returns-5
-unfolding fine
-returns-5 c = sym (sound-short (c .before .before .before .before .before .before .args .self) (c .before .if3 .left) (c .if4 .left))
+returns-5 c = sym (sound-small _ (rw (c .before .before .before .before .before .before .is-number2 .ensures, c .before .before .before .before .before .before .before .is-number .ensures) at (c .before .before .before .before .before .if1 .taken)) (c .before .before .before .before .if2 .left) (omega (arith, c .before .before .before .if3 .left)) (c .before .before .if4 .left) (c .before .if5 .taken) (c .if6 .left))
+
+returns-6 : tie.Need-returns-6
+returns-6 c = sym (sound-above _ (rw (c .before .before .before .before .before .is-number2 .ensures, c .before .before .before .before .before .before .is-number .ensures) at (c .before .before .before .before .if1 .taken)) (c .before .before .before .if2 .left) (omega (arith, c .before .before .if3 .left)) (c .before .if4 .left) (omega (arith, c .if5 .left)))
+
+returns-7 : tie.Need-returns-7
+returns-7 c = sym (sound-banks _ (rw (c .before .is-number2 .ensures, c .before .before .is-number .ensures) at (c .if1 .left)))
 
 pub is-sound-spec : {M : Type 1} → statement M
 is-sound-spec =
     tie.close
     (tie.spec
-    is-number-requires
-    is-number-requires-2
+    (λ c κs. search needs)
+    (λ c κs. search needs)
+    (λ c κs. search needs)
+    (λ c κs. search needs)
     returns
     returns-2
-    is-number-requires-3
-    is-number-requires-4
     returns-3
-    address-null-requires
     returns-4
-    returns-5)
+    returns-5
+    returns-6
+    returns-7)

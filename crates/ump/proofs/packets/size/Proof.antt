@@ -9,9 +9,7 @@ use Rattle.ump.proofs.packets.size.Tie as tie
 
 returns : tie.Need-returns
 unfolding size
-returns c = size-bits (messageType (c .args .w)) (omega arith)
+returns c = rw (c .message-type .ensures) (size-bits (messageType (c .before .args .w)) (omega arith))
 
 pub size-spec : {M : Type 1} → statement M
-size-spec =
-    tie.close
-    (tie.spec (λ c. search needs) (λ c. search needs) (λ c. search needs) (λ c. search needs) returns)
+size-spec = tie.close (tie.spec (λ c κs. search needs) (λ c. omega (arith, c .message-type .ensures)) (λ c. search needs) (λ c. search needs) (λ c. search needs) returns)
