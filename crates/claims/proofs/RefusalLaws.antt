@@ -10,11 +10,11 @@ use lib.Dec.{eqb, eqb·suc-zero, leb, leb·zero, ltb}
 use borrow.Author.Tests.{le-ltb, leb-false, leb-true, lt-ltb, ne-eqb}
 use Rattle.ground.proofs.Cases.{by-bool, choose, not-both}
 use Rattle.ump.specs.Word.{channelOf, groupOf, messageType, placeOf, voice1, voice2}
-use Rattle.ump.specs.Packet.{first, packet, second}
+use Rattle.ump.specs.Packet.{first, packet, second, size}
 use Rattle.ump.proofs.PacketLaws.{packet-four}
 use Rattle.stream.specs.Answers.{badData, badStatus, cutPacket, noForm, noRoom, noTable, notSound, reservedType, sent}
 use Rattle.stream.specs.Answers.{stopsRun, takenIn, wrongProtocol}
-use Rattle.stream.specs.Call.{Call, answerOf, fit, leftOf, refused, sentOf, went, within}
+use Rattle.stream.specs.Call.{Call, answerOf, fit, leftOf, readOf, refused, sentOf, went, within}
 use Rattle.stream.proofs.CallLaws.{refusal, refused-fits}
 use Rattle.stream.proofs.RunLaws.{does-left, within-does}
 use Rattle.screen.specs.Check.{checkedFields, goodFields, goodStatus}
@@ -135,19 +135,15 @@ module _ {T : Type 0} (room : ℕ) (t : T) (s : List ℕ) where
       → ByAnswer (room, t) s (refused a (room, t))
   unfolding refused
   by-refusal a l n =
-      choose (λ (c : Call (ℕ × T)). answerOf c ≡ a → ByAnswer (room, t) s c) (stopsRun a)
-      (λ e _. record {
-        reads = rw e;
-        untouched = λ _. (refl, refl);
-        speaking = λ z. absurd (omega arith);
-        quietly = λ z. absurd (omega arith);
-      })
-      (λ e _. record {
-        reads = rw e (standing s (n e) .2);
-        untouched = λ _. (refl, refl);
-        speaking = λ z. absurd (omega arith);
-        quietly = λ z. absurd (omega arith);
-      }) (refusal {T = ℕ × T} a (room, t) [] (λ _. refl) .0)
+      let x = refusal {T = ℕ × T} a (room, t) [] (λ _. refl) in
+      record {
+        reads = rw (x .0)
+            (choose (λ (c : Call (ℕ × T)). readOf (packet s) c ≡ cond (stopsRun a) 0 (size (first s))) (stopsRun a)
+            (λ e. rw e) (λ e. rw e (standing s (n e) .2)));
+        untouched = λ _. (x .2, x .3);
+        speaking = λ z. absurd (omega (arith, x .0));
+        quietly = λ _. x .2;
+      }
 
   by-answer : (c : Call T) → Shape t s c → ByAnswer (room, t) s (fit room c)
   unfolding refused

@@ -66,9 +66,9 @@ casesDown room s =
 pub record ByAnswer {T : Type 0} (t : ℕ × T) (s : List ℕ) (c : Call (ℕ × T)) : Type 0 where
   -- the packet's size, or nothing (RULES 3.1)
   pub reads : readOf (packet s) c ≡ cond (stopsRun (answerOf c)) 0 (size (first s))
-  -- a refusal leaves table and output untouched
+  -- a refusal leaves table and output untouched (RULES 3.3)
   pub untouched : 2 ≤ answerOf c → (sentOf c ≡ []) × (leftOf t c ≡ t)
-  -- 1 to 4 words are sent, or none
+  -- 1 to 4 words are sent, or none (RULES 3.4)
   pub speaking : answerOf c ≡ sent → (1 ≤ length (sentOf c)) × (length (sentOf c) ≤ 4)
   pub quietly : answerOf c ≡ takenIn → sentOf c ≡ []
 

@@ -20,7 +20,17 @@ pub formless-status : (w v s : ℕ) → s ≡ status w → (s ≡ 2 → ⊥) →
     → (s ≡ 11 → ⊥) → (s ≡ 12 → ⊥) → (s ≡ 13 → ⊥) → (s ≡ 14 → ⊥) → lower (read2 w v) ≡ []
 unfolding read2 lower
 formless-status w v s e n2 n3 n8 n9 n10 n11 n12 n13 n14 =
-    rw (is-not 2 n2, is-not 3 n3, is-not 8 n8, is-not 9 n9, is-not 10 n10, is-not 11 n11, is-not 12 n12, is-not 13 n13, is-not 14 n14)
+    rw (
+      is-not 2 n2,
+      is-not 3 n3,
+      is-not 8 n8,
+      is-not 9 n9,
+      is-not 10 n10,
+      is-not 11 n11,
+      is-not 12 n12,
+      is-not 13 n13,
+      is-not 14 n14,
+    )
     (go (eqb (status w) 0) (eqb (status w) 1) (eqb (status w) 4) (eqb (status w) 5) (eqb (status w) 6))
   where
     is-not : (k : ℕ) → (s ≡ k → ⊥) → eqb (status w) k ≡ false
