@@ -1,11 +1,10 @@
-pub mod RunLaws
-pub mod StepLaws
 pub mod StreamLaws
-pub mod RoomLaws
-pub mod PacketByPacket
-pub mod LiftLaws
+pub mod StepLaws
 pub mod WordLaws
+pub mod TakenBack
 pub mod RoundLaws
+pub mod RefusalLaws
+pub mod PacketByPacket
+pub mod RoomLaws
 pub mod RoundTrip
 pub mod NormalForm
-pub mod RefusalLaws

@@ -3,29 +3,34 @@ use Prim.Native.Nat.{ℕ, _≤_}
 use mathlib.Core.Path.{_≡_, sym, ap, _∙_}
 use mathlib.Core.List.{List}
 use native.Mathlib.Omega.{arith}
+use Rattle.ground.specs.Lists.{All}
 use Rattle.ump.specs.Packet.{cut}
+use Rattle.stream.specs.Claims.{calls}
+use Rattle.channel.specs.declared.Record.{Record}
 use Rattle.channel.specs.Record.{fresh}
-use Rattle.quernbrae.specs.Table.{tableUp}
-use Rattle.claims.specs.NormalForm.{NormalForm, downward, normal, upward}
-use Rattle.claims.specs.Runs.{All, calls}
+use Rattle.table.specs.Table.{tableUp}
+use Rattle.claims.specs.NormalForm.{NormalForm, NormalFrom, downward, normal, upward}
+use Rattle.claims.specs.RoundTrip.{Blank}
 use Rattle.claims.proofs.RoundLaws.{Taken, taken-ends}
-use Rattle.claims.proofs.RoundTrip.{all-pass, open-gate, returns, still-all}
+use Rattle.claims.proofs.RoundTrip.{all-pass, fresh-blank, open-gate, returns, still-all}
 use Rattle.claims.proofs.StepLaws.{up-stops}
 
-back : (s : List ℕ) → upward (normal s) ≡ upward s
-unfolding upward downward normal
-back s = returns all-pass tableUp open-gate still-all s .0
+module _ (t : List Record) (y : Blank t) where
+  back : (s : List ℕ) → (upward t (normal t s) ≡ upward t s) × All Taken (calls tableUp t (cut (normal t s)))
+  unfolding upward downward normal
+  back s = returns all-pass tableUp open-gate still-all t y s
 
-taken : (s : List ℕ) → All Taken (calls tableUp fresh (cut (normal s)))
-unfolding upward downward normal
-taken s = returns all-pass tableUp open-gate still-all s .1
+  normal-from : NormalFrom t
+  unfolding normal
+  normal-from =
+      record {
+        same = λ s u. (λ e. ap downward e, λ e. sym (back s .0) ∙ ap (upward t) e ∙ back u .0);
+        own = λ s. ap downward (back s .0);
+        taken = λ s. back s .1;
+        ends = λ s.
+            taken-ends tableUp (up-stops (λ (a : ℕ). 2 ≤ a) (omega arith) (omega arith) (omega arith))
+            (cut (normal t s)) t (back s .1);
+      }
 
 pub proved-normal-form : NormalForm
-unfolding normal
-proved-normal-form =
-    record {
-      same = λ s t. (λ e. ap downward e, λ e. sym (back s) ∙ ap upward e ∙ back t);
-      own = λ s. ap downward (back s);
-      taken = taken;
-      ends = λ s. taken-ends tableUp (up-stops (λ (a : ℕ). 2 ≤ a) (omega arith) (omega arith) (omega arith)) (cut (normal s)) fresh (taken s);
-    }
+proved-normal-form = record { blank = normal-from; at-fresh = normal-from fresh fresh-blank }

@@ -1,58 +1,64 @@
 -- The room of the output. Assumes nothing.
 use Prim.Native.Nat.{ℕ, _*_, _<_, _≤_}
-use mathlib.Core.Path.{_≡_, refl, sym, ap, _∙_}
-use mathlib.Core.Bool.{Bool, true, false}
+use mathlib.Core.Path.{_≡_, sym, ap, _∙_}
 use mathlib.Core.List.{List}
 use native.Mathlib.Omega.{arith}
 use lib.ListN.{length}
 use lib.Dec.{eqb, leb}
 use borrow.Author.Tests.{eqb-false, eqb-true, leb-false, leb-true}
+use Rattle.ground.proofs.Cases.{by-bool}
 use Rattle.ump.specs.Packet.{cut}
-use Rattle.voice.specs.Call.{Call, sentOf, within}
+use Rattle.stream.specs.Answers.{noRoom}
+use Rattle.stream.specs.Call.{Call, sentOf, within}
+use Rattle.stream.specs.Run.{Ran, run}
+use Rattle.stream.proofs.RunLaws.{Does, ample, bounded, roomy, run-does}
 use Rattle.voice.specs.Packet.{callDown}
-use Rattle.quernbrae.specs.Run.{Ran, run}
-use Rattle.quernbrae.specs.Table.{tableUp}
+use Rattle.table.specs.Table.{tableUp}
 use Rattle.claims.specs.Room.{Room, Roomy}
-use Rattle.claims.proofs.RunLaws.{Stops, ample, bounded, never, roomy}
-use Rattle.claims.proofs.StepLaws.{down-few, down-stops, up-few, up-stops}
+use Rattle.claims.proofs.StepLaws.{twice-down, down-stops, twice-up, up-stops}
 use Rattle.claims.proofs.StreamLaws.{cut-size}
 
--- of any step that itself never stops with 9, and sends at most two words for each of its packet
+abbrev NotNine : ℕ → Type 0
+NotNine a = a ≡ noRoom → ⊥
+
+-- of any step that itself never stops for want of room, and sends at most two words for each of its packet
 module _
     {T : Type 0}
     (step : T → List ℕ → Call T)
-    (stops : (t : T) (p : List ℕ) → Stops (λ (a : ℕ). a ≡ 9 → ⊥) (step t p))
+    (stops : (t : T) (p : List ℕ) → Does (λ _. Unit {0}) NotNine (step t p))
     (few : (t : T) (p : List ℕ) → length (sentOf (step t p)) ≤ 2 * length p)
   where
-    short : (room : ℕ) (t : T) (ps : List (List ℕ)) → run (within step) (room, t) ps .answer ≡ 9 → room < length (run step t ps .sent)
-    short room t ps e = go (leb (length (run step t ps .sent)) room) refl
-      where
-        go : (b : Bool) → leb (length (run step t ps .sent)) room ≡ b → room < length (run step t ps .sent)
-        go true h =
-            let same = ample step ps t room (leb-true (length (run step t ps .sent)) room h) in
-            absurd (never step (λ (a : ℕ). a ≡ 9 → ⊥) (λ e. omega arith) stops ps t (sym (ap (λ (r : Ran (ℕ × T)). r .answer) same) ∙ e))
-        go false h = leb-false (length (run step t ps .sent)) room h
+    short : (room : ℕ) (t : T) (ps : List (List ℕ)) → run (within step) (room, t) ps .answer ≡ noRoom
+        → room < length (run step t ps .sends)
+    short room t ps e =
+        by-bool (leb (length (run step t ps .sends)) room)
+        (λ h.
+        let same = ample step ps t room (leb-true (length (run step t ps .sends)) room h) in
+        absurd (run-does step (λ _. Unit {0}) NotNine (λ e. omega arith) (λ u p _. stops u p) ps t tt .1
+        (sym (ap (λ (r : Ran (ℕ × T)). r .answer) same) ∙ e)))
+        (leb-false (length (run step t ps .sends)) room)
 
-    answered : (room : ℕ) (t : T) (ps : List (List ℕ)) → room < length (run step t ps .sent) → run (within step) (room, t) ps .answer ≡ 9
-    answered room t ps h = go (eqb (run (within step) (room, t) ps .answer) 9) refl
-      where
-        go : (b : Bool) → eqb (run (within step) (room, t) ps .answer) 9 ≡ b → run (within step) (room, t) ps .answer ≡ 9
-        go true e = eqb-true (run (within step) (room, t) ps .answer) 9 e
-        go false e = absurd (omega (arith, roomy step ps t room (eqb-false (run (within step) (room, t) ps .answer) 9 e)))
+    answered : (room : ℕ) (t : T) (ps : List (List ℕ)) → room < length (run step t ps .sends)
+        → run (within step) (room, t) ps .answer ≡ noRoom
+    answered room t ps h =
+        let a = run (within step) (room, t) ps .answer in
+        by-bool (eqb a noRoom) (eqb-true a noRoom)
+        (λ e. absurd (omega (arith, roomy step ps t room (eqb-false a noRoom e))))
 
     all-roomy : Roomy step
     all-roomy =
         record {
-          nine = λ room t s. (short room t (cut s), answered room t (cut s));
+          short = λ room t s. (short room t (cut s), answered room t (cut s));
           all = λ room t s h. ample step (cut s) t room h;
           twice = λ room t s h.
-              let l : length (run step t (cut s) .sent) ≤ 2 * length s = rw cut-size at (bounded step 2 few (cut s) t) in
+              let l : length (run step t (cut s) .sends) ≤ 2 * length s =
+              rw cut-size at (bounded step 2 few (cut s) t) in
               (λ e. omega (arith, short room t (cut s) e), ample step (cut s) t room (omega arith));
         }
 
 pub proved-room : Room
 proved-room =
     record {
-      up = all-roomy tableUp (up-stops (λ (a : ℕ). a ≡ 9 → ⊥) (λ e. omega arith) (λ e. omega arith) (λ e. omega arith)) up-few;
-      down = all-roomy callDown (down-stops (λ (a : ℕ). a ≡ 9 → ⊥) (λ e. omega arith)) down-few;
+      up = all-roomy tableUp (up-stops NotNine (λ e. omega arith) (λ e. omega arith) (λ e. omega arith)) twice-up;
+      down = all-roomy callDown (down-stops NotNine (λ e. omega arith)) twice-down;
     }

@@ -1,5 +1,5 @@
-// Theorems about the definitions of the translator. Each stands as a type in specs/ and is proved in proofs/; the functions below do
-// nothing and ensure them, so that a check names each.
+// Theorems about the definitions of the translator. Each stands as a type in specs/ and is proved in
+// proofs/; the functions below do nothing and ensure them, so that a check names each.
 ghost use Rattle.claims.specs.NormalForm.{NormalForm};
 ghost use Rattle.claims.specs.PacketByPacket.{PacketByPacket};
 ghost use Rattle.claims.specs.Refusals.{Refusals};
@@ -16,7 +16,7 @@ pub fn packet_by_packet()
     ensures { λ _. ⌜ PacketByPacket ⌝ }
 {}
 
-// Demand 3: up, down and up again sends the same words.
+// Demand 3: up, down and up again sends the same words, from any table in which no bank waits.
 pub fn round_trip()
     ensures { λ _. ⌜ RoundTrip ⌝ }
 {}

@@ -1,7 +1,7 @@
-// The examples that the specification marks P, proved of the definitions together.
+// The worked examples of the request, proved of the definitions together.
 ghost use Rattle.examples.specs.Examples.{Examples};
 
-// Each gives what the specification says that it gives.
+// Each gives what it has to give.
 pub fn examples()
     ensures { λ _. ⌜ Examples ⌝ }
 {}

@@ -1,5 +1,5 @@
--- Laws of going up: a message that is read fits, and keeps a record sound; which messages change no record; and what going up
--- can send. Assumes nothing.
+-- Laws of going up: a message that is read fits, and keeps a record sound; which messages change no record; and what
+-- going up can send. Assumes nothing.
 use Prim.Native.Nat.{ℕ, _+_, _*_, _%_, _^_, _<_, _≤_}
 use mathlib.Core.Path.{_≡_, refl, sym, ap, _∙_}
 use mathlib.Core.Bool.{Bool, true, false, _&&_}
@@ -15,12 +15,13 @@ use Rattle.ump.specs.Word.{status}
 use Rattle.channel.specs.declared.Record.{Record}
 use Rattle.channel.specs.Record.{dataHighPresent, missing, number, present, registered, sound}
 use Rattle.channel.proofs.Sound.{opened, parts, proved-stays-sound}
-use Rattle.message.specs.Message.{Bank, Fits1, Fits2, Midi1, Midi2, assignable2, bank, channelPressure1, channelPressure2}
-use Rattle.message.specs.Message.{controlChange1, controlChange2, noBank, noteOff1, noteOff2, noteOn1, noteOn2, part, pitchBend1}
-use Rattle.message.specs.Message.{pitchBend2, polyPressure1, polyPressure2, programChange1, programChange2, read1, registered2}
+use Rattle.message.specs.Message.{Bank, Fits1, Fits2, Midi1, Midi2, assignable2, bank, channelPressure1}
+use Rattle.message.specs.Message.{channelPressure2, controlChange1, controlChange2, noBank, noteOff1, noteOff2, noteOn1}
+use Rattle.message.specs.Message.{noteOn2, part, pitchBend1, pitchBend2, polyPressure1, polyPressure2, programChange1}
+use Rattle.message.specs.Message.{programChange2, read1, registered2}
 use Rattle.lift.specs.declared.Control.{Control}
-use Rattle.lift.specs.declared.Control.the-variants.{AssignableBank, AssignableIndex, BankHigh, BankLow, DataHigh, DataLow}
-use Rattle.lift.specs.declared.Control.the-variants.{Nothing, Plain, RegisteredBank, RegisteredIndex}
+use Rattle.lift.specs.declared.Control.the-variants.{AssignableBank, AssignableIndex, BankHigh, BankLow, DataHigh}
+use Rattle.lift.specs.declared.Control.the-variants.{DataLow, Nothing, Plain, RegisteredBank, RegisteredIndex}
 use Rattle.lift.specs.Lift.{Lifted, addressed2, banked2, changes, changing, controlOf, controlled, dataLow, lift}
 
 pub read1-fits : (w : ℕ) → Fits1 (read1 w)
@@ -60,7 +61,18 @@ unchanging r (pitchBend1 v) h = refl
 pub plain-control : (i : ℕ) → part i ≡ false → controlOf i ≡ Plain
 unfolding controlOf
 plain-control i h =
-    rw (no 0 refl, no 32 refl, no 101 refl, no 100 refl, no 99 refl, no 98 refl, no 6 refl, no 38 refl, no 96 refl, no 97 refl)
+    rw (
+      no 0 refl,
+      no 32 refl,
+      no 101 refl,
+      no 100 refl,
+      no 99 refl,
+      no 98 refl,
+      no 6 refl,
+      no 38 refl,
+      no 96 refl,
+      no 97 refl,
+    )
   where
     no : (k : ℕ) → part k ≡ true → eqb i k ≡ false
     no k t = ne-eqb i k (λ e. not-both (sym h ∙ ap part e ∙ t))
@@ -68,7 +80,12 @@ plain-control i h =
 only-plain : (i : ℕ) → controlOf i ≡ Plain → part i ≡ false
 unfolding controlOf
 only-plain i e =
-    rw (ne-eqb i 0 (no 0 (λ x. cc)), ne-eqb i 6 (no 6 (λ x. cc)), ne-eqb i 32 (no 32 (λ x. cc)), ne-eqb i 38 (no 38 (λ x. cc)))
+    rw (
+      ne-eqb i 0 (no 0 (λ x. cc)),
+      ne-eqb i 6 (no 6 (λ x. cc)),
+      ne-eqb i 32 (no 32 (λ x. cc)),
+      ne-eqb i 38 (no 38 (λ x. cc)),
+    )
     (go (leb 96 i) refl)
   where
     no : (k : ℕ) → (controlOf k ≡ Plain → _≡_ {A = ℕ} 0 1) → i ≡ k → ⊥
@@ -81,7 +98,8 @@ only-plain i e =
     go false h = refl
     go true h =
         lt-leb i 101
-        (above (no 96 (λ x. cc)) (no 97 (λ x. cc)) (no 98 (λ x. cc)) (no 99 (λ x. cc)) (no 100 (λ x. cc)) (no 101 (λ x. cc))
+        (above (no 96 (λ x. cc)) (no 97 (λ x. cc)) (no 98 (λ x. cc)) (no 99 (λ x. cc)) (no 100 (λ x. cc))
+        (no 101 (λ x. cc))
         (leb-true 96 i h))
 
 -- a value that was scaled up: scaled down, it fits, and scaled up again it is what it was
@@ -93,7 +111,8 @@ scaled s d v h = rw (down-up s d v) (h, refl)
 
 -- what going up can send
 pub data Upward : Midi2 → Type 0 where
-  anyRegistered : {b i v : ℕ} → b ≤ 127 → i ≤ 127 → (eqb b 127 && eqb i 127) ≡ false → Scaled 14 32 v → Upward (registered2 b i v)
+  anyRegistered : {b i v : ℕ} → b ≤ 127 → i ≤ 127 → (eqb b 127 && eqb i 127) ≡ false → Scaled 14 32 v
+      → Upward (registered2 b i v)
   anyAssignable : {b i v : ℕ} → b ≤ 127 → i ≤ 127 → Scaled 14 32 v → Upward (assignable2 b i v)
   anyNoteOff : {n v : ℕ} → n ≤ 127 → Scaled 7 16 v → Upward (noteOff2 n v)
   anyNoteOn : {n v : ℕ} → n ≤ 127 → Scaled 7 16 v → (down 16 7 v ≡ 0 → ⊥) → Upward (noteOn2 n v)
@@ -133,7 +152,8 @@ module _ (r : Record) (ok : sound r ≡ true) where
       choose (λ (x : Lifted). IfSome Upward (x .sends)) (dataHighPresent r)
       (λ p. let o = opened r ok p in
       let x = scaled 14 32 ((r .«data_high» * 2 ^ 7 + v) % 2 ^ 14) (omega arith) in
-      choose Upward (eqb (r .kind) registered) (λ k. anyRegistered (o .bank-small) (o .index-small) (rw k at (o .not-null)) x)
+      choose Upward (eqb (r .kind) registered)
+      (λ k. anyRegistered (o .bank-small) (o .index-small) (rw k at (o .not-null)) x)
       (λ k. anyAssignable (o .bank-small) (o .index-small) x))
       (λ _. tt)
 

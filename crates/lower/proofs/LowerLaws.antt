@@ -9,7 +9,10 @@ use lib.Dec.{eqb}
 use lib.ListN.{length}
 use Rattle.ump.specs.Word.{byte3, byte4, status}
 use Rattle.scale.specs.Scale.{down}
-use Rattle.message.specs.Message.{Bank, Midi2, assignable2, assignablePerNote2, bank, channelPressure2, controlChange1, controlChange2, noBank, noteOff2, noteOn2, perNoteManagement2, perNotePitchBend2, part, pitchBend2, polyPressure2, programChange2, read2, registered2, registeredPerNote2, relativeAssignable2, relativeRegistered2}
+use Rattle.message.specs.Message.{Midi2, assignable2, assignablePerNote2, bank, channelPressure2, controlChange1}
+use Rattle.message.specs.Message.{controlChange2, noBank, noteOff2, noteOn2, part, perNoteManagement2}
+use Rattle.message.specs.Message.{perNotePitchBend2, pitchBend2, polyPressure2, programChange2, read2, registered2}
+use Rattle.message.specs.Message.{registeredPerNote2, relativeAssignable2, relativeRegistered2}
 use Rattle.lower.specs.Lower.{entered, lower}
 
 -- the statuses that have no form: 0, 1, 4, 5, 6 and F
@@ -17,7 +20,17 @@ pub formless-status : (w v s : ℕ) → s ≡ status w → (s ≡ 2 → ⊥) →
     → (s ≡ 11 → ⊥) → (s ≡ 12 → ⊥) → (s ≡ 13 → ⊥) → (s ≡ 14 → ⊥) → lower (read2 w v) ≡ []
 unfolding read2 lower
 formless-status w v s e n2 n3 n8 n9 n10 n11 n12 n13 n14 =
-    rw (is-not 2 n2, is-not 3 n3, is-not 8 n8, is-not 9 n9, is-not 10 n10, is-not 11 n11, is-not 12 n12, is-not 13 n13, is-not 14 n14)
+    rw (
+      is-not 2 n2,
+      is-not 3 n3,
+      is-not 8 n8,
+      is-not 9 n9,
+      is-not 10 n10,
+      is-not 11 n11,
+      is-not 12 n12,
+      is-not 13 n13,
+      is-not 14 n14,
+    )
     (go (eqb (status w) 0) (eqb (status w) 1) (eqb (status w) 4) (eqb (status w) 5) (eqb (status w) 6))
   where
     is-not : (k : ℕ) → (s ≡ k → ⊥) → eqb (status w) k ≡ false

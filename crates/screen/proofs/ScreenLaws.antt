@@ -1,5 +1,5 @@
--- Laws of the screening: a count above 6 is bad data, whatever the payload; a MIDI 1.0 voice message is screened by its one
--- word; only a cut packet is refused by an answer that stops a run. Assumes nothing.
+-- Laws of the screening: a count above 6 is bad data, whatever the payload; a MIDI 1.0 voice message is screened by its
+-- one word; only a cut packet is refused by an answer that stops a run; what passes. Assumes nothing.
 use mathlib.Core.Path.{_≡_, refl}
 use mathlib.Core.Bool.{Bool, true, false, cond, not}
 use mathlib.Core.List.{List, [], _∷_}
@@ -15,7 +15,8 @@ use Rattle.ump.proofs.PacketLaws.{at-none}
 use Rattle.stream.specs.Answers.{badData, badStatus, cutPacket, reservedType, stopsRun, takenIn, wrongProtocol}
 use Rattle.stream.specs.Call.{Call, refused}
 use Rattle.screen.specs.declared.Screened.{Screened}
-use Rattle.screen.specs.Check.{Field, checkedFields, exclusiveFields, goodFields, goodStatus, voice1Fields, voice1Status}
+use Rattle.screen.specs.Check.{Field, checkedFields, exclusiveFields, goodFields, goodStatus, voice1Fields}
+use Rattle.screen.specs.Check.{voice1Status}
 use Rattle.screen.specs.Screen.{answering, checkVoice1, checking, goesOn, reserved, screen, screened}
 
 first-above : (f : Field) (fs : List Field) → leb (f .value) (f .most) ≡ false → goodFields (f ∷ fs) ≡ false
@@ -50,8 +51,9 @@ checks : (P : Screened → Type 0) (b : Bool) (fs : List Field) → P (answering
 checks P b fs status fields good =
     choose P (not b) (λ _. status) (λ _. choose P (not (goodFields fs)) (λ _. fields) (λ _. good))
 
-screens : (P : Screened → Type 0) (wrong : ℕ) (p : List ℕ) → (p ≡ [] → P (answering cutPacket)) → P (answering reservedType)
-    → P (answering wrongProtocol) → P (answering badStatus) → P (answering badData) → P (answering goesOn) → P (screen wrong p)
+screens : (P : Screened → Type 0) (wrong : ℕ) (p : List ℕ) → (p ≡ [] → P (answering cutPacket))
+    → P (answering reservedType) → P (answering wrongProtocol) → P (answering badStatus) → P (answering badData)
+    → P (answering goesOn) → P (screen wrong p)
 unfolding screen
 screens P wrong p none reserved-type protocol status fields good =
     choose P (eqb (length p) 0) (λ e. none (at-none p (eqb-true (length p) 0 e)))
@@ -62,18 +64,22 @@ screens P wrong p none reserved-type protocol status fields good =
 -- only where no packet is whole does the screening stop a run
 pub cut-only : (wrong : ℕ) (p : List ℕ) → stopsRun (screen wrong p .answer) ≡ true → p ≡ []
 cut-only wrong p =
-    screens (λ (s : Screened). stopsRun (s .answer) ≡ true → p ≡ []) wrong p (λ e _. e) not-both not-both not-both not-both not-both
+    screens (λ (s : Screened). stopsRun (s .answer) ≡ true → p ≡ []) wrong p
+    (λ e _. e) not-both not-both not-both not-both not-both
 
 pub check-goes-on : (w : ℕ) → stopsRun (checkVoice1 w .answer) ≡ false
 unfolding checkVoice1
-check-goes-on w = checks (λ (s : Screened). stopsRun (s .answer) ≡ false) (voice1Status w) (voice1Fields w) refl refl refl
+check-goes-on w =
+    checks (λ (s : Screened). stopsRun (s .answer) ≡ false) (voice1Status w) (voice1Fields w) refl refl refl
 
 -- a refusal is neither `sent` nor `takenIn`
 abbrev Above : Screened → Type 0
 Above s = (s .answer ≡ goesOn → ⊥) → leb (s .answer) takenIn ≡ false
 
-pub refused-above : (wrong : ℕ) (p : List ℕ) → (screen wrong p .answer ≡ goesOn → ⊥) → leb (screen wrong p .answer) takenIn ≡ false
-refused-above wrong p = screens Above wrong p (λ _ _. refl) (λ _. refl) (λ _. refl) (λ _. refl) (λ _. refl) (λ n. absurd (n refl))
+pub refused-above : (wrong : ℕ) (p : List ℕ) → (screen wrong p .answer ≡ goesOn → ⊥)
+    → leb (screen wrong p .answer) takenIn ≡ false
+refused-above wrong p =
+    screens Above wrong p (λ _ _. refl) (λ _. refl) (λ _. refl) (λ _. refl) (λ _. refl) (λ n. absurd (n refl))
 
 pub check-above : (w : ℕ) → (checkVoice1 w .answer ≡ goesOn → ⊥) → leb (checkVoice1 w .answer) takenIn ≡ false
 unfolding checkVoice1
@@ -93,7 +99,8 @@ passed wrong p =
     go (eqb (length p) 0) (reserved (messageType (first p))) (eqb (messageType (first p)) wrong) (goodStatus (first p))
     (goodFields (checkedFields (first p) (second p))) refl refl refl refl refl
   where
-    go : (a b c d e : Bool) → eqb (length p) 0 ≡ a → reserved (messageType (first p)) ≡ b → eqb (messageType (first p)) wrong ≡ c
+    go : (a b c d e : Bool) → eqb (length p) 0 ≡ a → reserved (messageType (first p)) ≡ b
+        → eqb (messageType (first p)) wrong ≡ c
         → goodStatus (first p) ≡ d → goodFields (checkedFields (first p) (second p)) ≡ e
         → cond a (answering cutPacket) (cond b (answering reservedType) (cond c (answering wrongProtocol)
         (cond (not d) (answering badStatus) (cond (not e) (answering badData) (answering goesOn))))) .answer ≡ goesOn
@@ -106,7 +113,8 @@ passed wrong p =
     go false false false true true x y z v u h = record { some = x; free = y; right = z; status = v; data-fields = u }
 
 -- a screened call is the act, or one refusal
-pub screened-cases : {T : Type 0} (P : Call T → Type 0) (s : Screened) (t : T) (act : Call T) → (s .answer ≡ goesOn → P act)
+pub screened-cases : {T : Type 0} (P : Call T → Type 0) (s : Screened) (t : T) (act : Call T)
+    → (s .answer ≡ goesOn → P act)
     → ((s .answer ≡ goesOn → ⊥) → P (refused (s .answer) t)) → P (screened s t act)
 unfolding screened
 screened-cases P s t act f g =

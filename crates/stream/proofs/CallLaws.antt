@@ -16,11 +16,13 @@ pub refusal : {T : Type 0} (a : ℕ) (t : T) (p : List ℕ) → (stopsRun a ≡ 
     × (leftOf t (refused a t) ≡ t)
 unfolding refused
 refusal {T} a t p h =
-    choose (λ (c : Call T). (answerOf c ≡ a) × (readOf p c ≡ length p) × (sentOf c ≡ []) × (leftOf t c ≡ t)) (stopsRun a)
+    choose (λ (c : Call T). (answerOf c ≡ a) × (readOf p c ≡ length p) × (sentOf c ≡ []) × (leftOf t c ≡ t))
+    (stopsRun a)
     (λ e. (refl, rw (h e), refl, refl)) (λ _. (refl, refl, refl, refl))
 
 -- what sends nothing has room
 pub refused-fits : {T : Type 0} (room a : ℕ) (t : T) → fit room (refused a t) ≡ refused a (room, t)
 unfolding refused
 refused-fits {T} room a t =
-    choose (λ (c : Call T). fit room c ≡ refused a (room, t)) (stopsRun a) (λ e. rw e) (λ e. rw (e, leb·zero room, sub-zero room))
+    choose (λ (c : Call T). fit room c ≡ refused a (room, t)) (stopsRun a) (λ e. rw e)
+    (λ e. rw (e, leb·zero room, sub-zero room))

@@ -57,13 +57,15 @@ module _ {T : Type 0} (step : T → List ℕ → Call T) where
   unfolding run within
   ample [] t room h = ap (λ (n : ℕ). record { answer = sent; read = 0; sends = []; left = (n, t) }) (omega arith)
   ample (p ∷ ps) t room h =
-      by-first-call (λ (r : Ran T). length (r .sends) ≤ room → run (within step) (room, t) (p ∷ ps) ≡ roomed room r) t p ps
+      by-first-call (λ (r : Ran T). length (r .sends) ≤ room
+      → run (within step) (room, t) (p ∷ ps) ≡ roomed room r) t p ps
       (λ a ws u e k.
       let r = run step u ps in
       let l = length-append ws (r .sends) in
       let same : room - length ws - length (r .sends) ≡ room - length (ws ++ r .sends) = omega arith in
       rw (e, le-leb (length ws) room (omega arith), ample ps u (room - length ws) (omega arith))
-      (ap (λ (n : ℕ). thenRun p (n, t) (went a ws (n, u)) (λ v. record { answer = r .answer; read = r .read; sends = r .sends; left = (v .0, r .left) })) same))
+      (ap (λ (n : ℕ). thenRun p (n, t) (went a ws (n, u))
+      (λ v. record { answer = r .answer; read = r .read; sends = r .sends; left = (v .0, r .left) })) same))
       (λ a e _. rw e (ap (λ (n : ℕ). record { answer = a; read = 0; sends = []; left = (n, t) }) (omega arith))) h
 
   -- and a run that does not answer `noRoom` had room for all
@@ -112,13 +114,14 @@ module _ {T : Type 0} (step : T → List ℕ → Call T) where
       (λ a e. omega arith)
 
   -- two rows of packets, one after the other
-  pub run-append : ((t : T) (p : List ℕ) → Does (λ _. Unit {0}) (λ a. a ≡ sent → ⊥) (step t p)) → (ps qs : List (List ℕ))
-      (t : T) → run step t (ps ++ qs) ≡ andThen (run step t ps) (λ u. run step u qs)
+  pub run-append : ((t : T) (p : List ℕ) → Does (λ _. Unit {0}) (λ a. a ≡ sent → ⊥) (step t p))
+      → (ps qs : List (List ℕ)) (t : T) → run step t (ps ++ qs) ≡ andThen (run step t ps) (λ u. run step u qs)
   unfolding run
   run-append z [] qs t = rw (zero-add (run step t qs .read))
   run-append z (p ∷ ps) qs t =
       by-first-call (λ (r : Ran T). run step t (p ∷ ps ++ qs) ≡ andThen r (λ u. run step u qs)) t p ps
-      (λ a ws u e. rw (e, run-append z ps qs u) (go ws (run step u ps) (run step (run step u ps .left) qs) (eqb (run step u ps .answer) 0)))
+      (λ a ws u e. rw (e, run-append z ps qs u)
+      (go ws (run step u ps) (run step (run step u ps .left) qs) (eqb (run step u ps .answer) 0)))
       (λ a e. let n : a ≡ sent → ⊥ = rw e at (z t p) in rw (e, ne-eqb a 0 n))
     where
       both : Ran T → Ran T → Ran T
@@ -134,7 +137,8 @@ module _ {T : Type 0} (step : T → List ℕ → Call T) where
   pub by-calls : {B : Type 0} (op : B → B → B) (z : B) (of : Made T → B) (whole : Ran T → B)
       → ((t : T) → whole (record { answer = sent; read = 0; sends = []; left = t }) ≡ z)
       → ((p : List ℕ) (t : T) (a : ℕ)
-      → whole (record { answer = a; read = 0; sends = []; left = t }) ≡ op (of (record { packet = p; call = stopped a })) z)
+      → whole (record { answer = a; read = 0; sends = []; left = t })
+      ≡ op (of (record { packet = p; call = stopped a })) z)
       → ((p : List ℕ) (t : T) (a : ℕ) (ws : List ℕ) (u : T) (rest : T → Ran T)
       → whole (thenRun p t (went a ws u) rest) ≡ op (of (record { packet = p; call = went a ws u })) (whole (rest u)))
       → (t : T) (ps : List (List ℕ)) → whole (run step t ps) ≡ foldr op z (map of (calls step t ps))
@@ -143,5 +147,6 @@ module _ {T : Type 0} (step : T → List ℕ → Call T) where
   by-calls op z of whole f g h t (p ∷ ps) =
       by-first-call (λ (r : Ran T). whole r ≡ foldr op z (map of (calls step t (p ∷ ps)))) t p ps
       (λ a ws u e.
-      rw e (h p t a ws u (λ v. run step v ps) ∙ ap (op (of (record { packet = p; call = went a ws u }))) (by-calls op z of whole f g h u ps)))
+      rw e (h p t a ws u (λ v. run step v ps)
+      ∙ ap (op (of (record { packet = p; call = went a ws u }))) (by-calls op z of whole f g h u ps)))
       (λ a e. rw e (g p t a))

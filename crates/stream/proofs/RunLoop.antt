@@ -1,8 +1,9 @@
--- A loop that makes a call at each packet is the run, for every step that looks at its own packet alone. Assumes nothing.
+-- A loop that makes a call at each packet is the run, for every step that looks at its own packet alone. Assumes
+-- nothing.
 use Prim.Native.Nat.{ℕ, suc, _+_, _-_, _<_, _≤_}
 use mathlib.Core.Path.{_≡_, refl, sym, ap, _∙_, subst}
 use mathlib.Core.Bool.{Bool, true, false, cond}
-use mathlib.Core.List.{List, [], _∷_, _++_, append-assoc, append-nil}
+use mathlib.Core.List.{List, _∷_, _++_, append-assoc, append-nil}
 use native.Mathlib.Omega.{arith}
 use native.Mathlib.Nat.{add-zero, zero-add, add-assoc, sub-zero}
 use lib.ListN.{length, getD, take, drop, length-drop, length-append, take-append-drop}
@@ -18,8 +19,8 @@ use Rattle.stream.specs.Call.{Call, answerOf, fit, leftOf, readOf, sentO
 use Rattle.stream.specs.Run.{Ran, run, thenRun}
 
 -- What a function that makes the call c answers: at the packet p, in state t, into the output from the place `to` on.
-pub record Did {T : Type 0} (c : Call (ℕ × T)) (room : ℕ) (p : List ℕ) (to : ℕ) (t : T) (out : List ℕ) (answer read words : ℕ) (t′ : T)
-    (out′ : List ℕ) : Type 0 where
+pub record Did {T : Type 0} (c : Call (ℕ × T)) (room : ℕ) (p : List ℕ) (to : ℕ) (t : T) (out : List ℕ)
+    (answer read words : ℕ) (t′ : T) (out′ : List ℕ) : Type 0 where
   pub answers : answer ≡ answerOf c
   pub reads : read ≡ readOf p c
   pub writes : words ≡ length (sentOf c)
@@ -27,7 +28,8 @@ pub record Did {T : Type 0} (c : Call (ℕ × T)) (room : ℕ) (p : List ℕ) (t
   pub holds : out′ ≡ written to (sentOf c) out
 
 -- and what one that makes a run answers
-pub record DidRun {T : Type 0} (r : Ran (ℕ × T)) (out : List ℕ) (answer read words : ℕ) (t′ : T) (out′ : List ℕ) : Type 0 where
+pub record DidRun {T : Type 0} (r : Ran (ℕ × T)) (out : List ℕ) (answer read words : ℕ) (t′ : T)
+    (out′ : List ℕ) : Type 0 where
   pub answers : answer ≡ r .answer
   pub reads : read ≡ r .read
   pub writes : words ≡ length (r .sends)
@@ -82,7 +84,8 @@ module _
         ap (run (within step) (room, t)) (cut-at a i h) ∙ rw e
 
     end : (t : T) (out : List ℕ) (i n A : ℕ)
-        → run (within step) (length out₀, t₀) (cut a) ≡ record { answer = A; read = i; sends = take n out; left = (length out - n, t) }
+        → run (within step) (length out₀, t₀) (cut a)
+        ≡ record { answer = A; read = i; sends = take n out; left = (length out - n, t) }
         → Runs t out i n → DidRun (run (within step) (length out₀, t₀) (cut a)) out₀ A i n t out
     end t out i n A e r =
         rw e
@@ -126,7 +129,8 @@ module _
         stop : (x : ℕ) → From (stopped x) → Did (stopped x) free p n t out A k m t′ out′ → Then t out i n A k m t′ out′
         stop x e d =
             let same : out′ ≡ out = d .holds ∙ written-none n out in
-            let y : run (within step) (length out₀, t₀) (cut a) ≡ record { answer = A; read = i; sends = take n out; left = (free, t) } =
+            let y : run (within step) (length out₀, t₀) (cut a)
+            ≡ record { answer = A; read = i; sends = take n out; left = (free, t) } =
             r .runs ∙ rw (e, add-zero i, append-nil (take n out), d .answers) in
             (λ z. absurd (z (d .reads)), λ _. (rw (same, d .leaves) (end t out i n A y r), d .writes))
 
@@ -136,7 +140,8 @@ module _
         go (went x w u) e f d = deep (leb (length w) free) refl e d
           where
             deep : (b : Bool) → leb (length w) free ≡ b → From (cond b (went x w (free - length w, u)) (stopped noRoom))
-                → Did (cond b (went x w (free - length w, u)) (stopped noRoom)) free p n t out A k m t′ out′ → Then t out i n A k m t′ out′
+                → Did (cond b (went x w (free - length w, u)) (stopped noRoom)) free p n t out A k m t′ out′
+                → Then t out i n A k m t′ out′
             deep false b e d = stop noRoom e d
             deep true b e d =
                 let room : length w ≤ free = leb-true (length w) free b in
@@ -146,12 +151,19 @@ module _
                 let fits : sz ≤ length (drop i a) = rw here at (f .1) in
                 let big = size-range (getD a i 0) in
                 let piece : length (take sz (drop i a)) ≡ sz = length-take-le sz (drop i a) fits in
-                let front : length (take n out ++ w) ≡ n + m = length-append (take n out) w ∙ omega (arith, length-take-le n out (r .wrote)) in
+                let front : length (take n out ++ w) ≡ n + m = length-append (take n out) w
+                ∙ omega (arith, length-take-le n out (r .wrote)) in
                 let split : out′ ≡ (take n out ++ w) ++ drop (n + m) out = d .holds ∙ rw m= in
                 let long : length out′ ≡ length out =
-                ap length split ∙ omega (arith, length-append (take n out ++ w) (drop (n + m) out), length-drop (n + m) out) in
-                let took : take (n + m) out′ ≡ take n out ++ w = rw split (take-at (take n out ++ w) (drop (n + m) out) (n + m) front) in
-                let left : drop (n + m) out′ ≡ drop (n + m) out = rw split (drop-at (take n out ++ w) (drop (n + m) out) (n + m) front) in
+                ap length split ∙ omega (
+                  arith,
+                  length-append (take n out ++ w) (drop (n + m) out),
+                  length-drop (n + m) out,
+                ) in
+                let took : take (n + m) out′ ≡ take n out ++ w =
+                rw split (take-at (take n out ++ w) (drop (n + m) out) (n + m) front) in
+                let left : drop (n + m) out′ ≡ drop (n + m) out =
+                rw split (drop-at (take n out ++ w) (drop (n + m) out) (n + m) front) in
                 let less : length out′ - (n + m) ≡ free - length w = omega arith in
                 let q = tail (free - length w, u) in (
                   λ z. (
@@ -161,7 +173,16 @@ module _
                       long = long ∙ r .long;
                       rest = left ∙ sym (drop-drop m n out) ∙ ap (drop m) (r .rest) ∙ drop-drop m n out₀;
                       runs = r .runs
-                          ∙ rw (e, piece, k=, took, less, d .leaves, add-assoc i sz (q .read), append-assoc (take n out) w (q .sends));
+                          ∙ rw (
+                            e,
+                            piece,
+                            k=,
+                            took,
+                            less,
+                            d .leaves,
+                            add-assoc i sz (q .read),
+                            append-assoc (take n out) w (q .sends),
+                          );
                     },
                     omega arith,
                   ),

@@ -22,8 +22,8 @@ use Rattle.voice.proofs.PacketLaws.{up-does}
 use Rattle.table.specs.Table.{SoundTable, runUp, stored, tableUp}
 
 -- what holds of each record, and of one that replaces one
-pub at-set : (P : Record → Type 0) (t : List Record) (k : ℕ) (r : Record) → P r → ((j : ℕ) → P (getD t j empty)) → (j : ℕ)
-    → P (getD (set t k r) j empty)
+pub at-set : (P : Record → Type 0) (t : List Record) (k : ℕ) (r : Record) → P r → ((j : ℕ) → P (getD t j empty))
+    → (j : ℕ) → P (getD (set t k r) j empty)
 at-set P [] k r p h j = h j
 at-set P (x ∷ t) zero r p h zero = p
 at-set P (x ∷ t) zero r p h (suc j) = h (suc j)
@@ -39,7 +39,8 @@ all-empty (suc n) (suc j) = all-empty n j
 pub fresh-sound : SoundTable fresh
 fresh-sound i = rw (all-empty wholeTable i) (proved-stays-sound .at-start)
 
--- what a call with the table leaves, if it goes on, and what it stops with, by what the call with the packet's own record does
+-- what a call with the table leaves, if it goes on, and what it stops with, by what the call with the packet's own
+-- record does
 pub table-does : (I : List Record → Type 0) (A : ℕ → Type 0) (t : List Record) (s : List ℕ) → A noTable
     → Does (λ (x : Record). I (set t (placeOf (first s)) x)) A (callUp (getD t (placeOf (first s)) empty) s)
     → Does I A (tableUp t s)
@@ -47,7 +48,8 @@ unfolding tableUp
 table-does I A t s ten d =
     choose (Does I A) (eqb (length t) wholeTable) (λ _. go (callUp (getD t (placeOf (first s)) empty) s) d) (λ _. ten)
   where
-    go : (c : Call Record) → Does (λ (x : Record). I (set t (placeOf (first s)) x)) A c → Does I A (stored t (placeOf (first s)) c)
+    go : (c : Call Record) → Does (λ (x : Record). I (set t (placeOf (first s)) x)) A c
+        → Does I A (stored t (placeOf (first s)) c)
     go (went a ws u) d = d
     go (stopped a) d = d
 
@@ -81,12 +83,14 @@ within-keeps u s h = within-does tableUp SoundTable NotEight (λ e. omega (arith
 pub stays-sound : (room : ℕ) (t : List Record) (s : List ℕ) → SoundTable t
     → SoundTable (leftOf (room, t) (within tableUp (room, t) s) .1)
 stays-sound room t s h =
-    does-left (λ (u : ℕ × List Record). SoundTable (u .1)) NotEight (room, t) (within tableUp (room, t) s) h (within-keeps (room, t) s h)
+    does-left (λ (u : ℕ × List Record). SoundTable (u .1)) NotEight (room, t) (within tableUp (room, t) s) h
+    (within-keeps (room, t) s h)
 
 -- so a run over one never answers 8
 pub never-eight : (room : ℕ) (t : List Record) (s : List ℕ) → SoundTable t → runUp room t s .answer ≡ notSound → ⊥
 unfolding runUp
 never-eight room t s h =
     choose (λ (r : Ran (ℕ × List Record)). NotEight (r .answer)) (eqb (length t) wholeTable)
-    (λ _. run-does (within tableUp) (λ (u : ℕ × List Record). SoundTable (u .1)) NotEight (λ e. omega (arith, e)) within-keeps (cut s)
+    (λ _. run-does (within tableUp) (λ (u : ℕ × List Record). SoundTable (u .1)) NotEight
+    (λ e. omega (arith, e)) within-keeps (cut s)
     (room, t) h .1) (λ _ e. omega (arith, e))

@@ -1,5 +1,5 @@
--- Laws of a call with the table: it looks at its own packet alone, goes on only with a whole one, and is the call with the
--- packet's own record. Assumes nothing.
+-- Laws of a call with the table: it looks at its own packet alone, goes on only with a whole one, and is the call with
+-- the packet's own record. Assumes nothing.
 use Prim.Native.Nat.{ℕ, zero, suc, _≤_}
 use mathlib.Core.Path.{_≡_, refl, sym, ap, _∙_}
 use mathlib.Core.List.{List, _∷_}
@@ -53,7 +53,8 @@ pub with-table : (room : ℕ) (t : List Record) (k : ℕ) (p : List ℕ) (c : Ca
     × (leftOf (room, t) (fit room (stored t k c)) .1 ≡ set t k (leftOf (room, getD t k empty) (fit room c) .1))
 with-table room t k p (stopped a) = (refl, refl, refl, sym (set-getD t k empty))
 with-table room t k p (went a ws u) =
-    by-bool (leb (length ws) room) (λ e. rw e (refl, refl, refl, refl)) (λ e. rw e (refl, refl, refl, sym (set-getD t k empty)))
+    by-bool (leb (length ws) room) (λ e. rw e (refl, refl, refl, refl))
+    (λ e. rw e (refl, refl, refl, sym (set-getD t k empty)))
 
 pub first-at : (ws : List ℕ) (i : ℕ) → first (drop i ws) ≡ getD ws i 0
 first-at ws i = getD-drop i ws 0 0 ∙ ap (λ (n : ℕ). getD ws n 0) (add-zero i)

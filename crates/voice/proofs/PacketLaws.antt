@@ -1,5 +1,5 @@
--- Laws of one packet: a call looks at its own packet alone, and goes on only with a whole one; it sends at most four words; and
--- when it leaves its record as it was. Assumes nothing.
+-- Laws of one packet: a call looks at its own packet alone, and goes on only with a whole one; what it comes to; it
+-- sends at most four words; and when it leaves its record as it was. Assumes nothing.
 use Prim.Native.Nat.{ℕ, suc, _≤_}
 use mathlib.Core.Path.{_≡_, refl, sym, ap, subst, _∙_}
 use mathlib.Core.Bool.{true, false}
@@ -28,8 +28,8 @@ use Rattle.lift.specs.Lift.{lift}
 use Rattle.lift.proofs.LiftLaws.{unchanging}
 use Rattle.lower.specs.Lower.{lower}
 use Rattle.lower.proofs.LowerLaws.{lower-few}
-use Rattle.voice.specs.Packet.{actDown, actUp, callDown, callUp, changesAt, packetDown, packetUp, sending, sendingDown}
-use Rattle.voice.specs.Packet.{speakDown, speakUp}
+use Rattle.voice.specs.Packet.{actDown, actUp, callDown, callUp, changesAt, packetDown, packetUp, sending}
+use Rattle.voice.specs.Packet.{sendingDown, speakDown, speakUp}
 use Rattle.voice.specs.Turn.{changedBy}
 
 pub down-near : (t : Unit {0}) (w : ℕ) (s : List ℕ) → callDown t (take (size w) (w ∷ s)) ≡ callDown t (w ∷ s)
@@ -41,7 +41,8 @@ packet-inside : {T : Type 0} (act : List ℕ → Call T) → act [] ≡ stopped 
     → Inside (w ∷ s) (act (packet (w ∷ s)))
 packet-inside {T} act e w s =
     ⊎-elim (λ n. subst (λ (c : Call T). Inside (w ∷ s) c) (sym (ap act n ∙ e)) tt)
-    (λ h. go (act (packet (w ∷ s))) (ap length (h .0) ∙ length-take-le (size w) (w ∷ s) (h .1)) (h .1)) (packet-size w s)
+    (λ h. go (act (packet (w ∷ s))) (ap length (h .0) ∙ length-take-le (size w) (w ∷ s) (h .1)) (h .1))
+    (packet-size w s)
   where
     go : (c : Call T) → length (packet (w ∷ s)) ≡ size w → size w ≤ length (w ∷ s) → Inside (w ∷ s) c
     go (went a ws u) e h = (e, h)
@@ -55,21 +56,25 @@ pub down-inside : (t : Unit {0}) (w : ℕ) (s : List ℕ) → Inside (w ∷ s) (
 unfolding callDown packetDown screen screened refused
 down-inside t w s = packet-inside packetDown refl w s
 
--- What a call up comes to at the packet p, whose first word is w, with the record r: refused, sent on, or a voice message. In a
--- state t, where `put` puts a record back.
-pub record UpCases {T : Type 0} (P : Call T → Type 0) (t : T) (put : Record → T) (r : Record) (p : List ℕ) (w : ℕ) : Type 0 where
+-- What a call up comes to at the packet p, whose first word is w, with the record r: refused, sent on, or a voice
+-- message. In a state t, where `put` puts a record back.
+pub record UpCases {T : Type 0} (P : Call T → Type 0) (t : T) (put : Record → T) (r : Record) (p : List ℕ)
+    (w : ℕ) : Type 0 where
   pub refuses : (screen voice2 p .answer ≡ goesOn → ⊥) → P (refused (screen voice2 p .answer) t)
   pub onward : screen voice2 p .answer ≡ goesOn → eqb (messageType w) voice1 ≡ false → P (went sent p t)
-  pub unsound : screen voice2 p .answer ≡ goesOn → eqb (messageType w) voice1 ≡ true → sound r ≡ false → P (stopped notSound)
+  pub unsound : screen voice2 p .answer ≡ goesOn → eqb (messageType w) voice1 ≡ true → sound r ≡ false
+      → P (stopped notSound)
   pub takes : screen voice2 p .answer ≡ goesOn → eqb (messageType w) voice1 ≡ true → sound r ≡ true
       → lift r (read1 w) .sends ≡ none → P (went takenIn [] (put (lift r (read1 w) .after)))
   pub sends : screen voice2 p .answer ≡ goesOn → eqb (messageType w) voice1 ≡ true → sound r ≡ true → (m : Midi2)
-      → lift r (read1 w) .sends ≡ some m → P (went sent (write2 (groupOf w) (channelOf w) m) (put (lift r (read1 w) .after)))
+      → lift r (read1 w) .sends ≡ some m
+      → P (went sent (write2 (groupOf w) (channelOf w) m) (put (lift r (read1 w) .after)))
 
 abbrev itself : Record → Record
 itself r = r
 
-pub up-cases : (P : Call Record → Type 0) (r : Record) (p : List ℕ) → UpCases P r itself r p (first p) → P (packetUp r p)
+pub up-cases : (P : Call Record → Type 0) (r : Record) (p : List ℕ) → UpCases P r itself r p (first p)
+    → P (packetUp r p)
 unfolding packetUp speakUp
 up-cases P r p u =
     screened-cases P (screen voice2 p) r (actUp r p)
@@ -91,7 +96,8 @@ pub record DownCases (P : Call (Unit {0}) → Type 0) (p : List ℕ) : Type 0 wh
   pub onward : screen voice1 p .answer ≡ goesOn → eqb (messageType (first p)) voice2 ≡ false → P (went sent p tt)
   pub formless : screen voice1 p .answer ≡ goesOn → eqb (messageType (first p)) voice2 ≡ true
       → lower (read2 (first p) (second p)) ≡ [] → P (went noForm [] tt)
-  pub sends : screen voice1 p .answer ≡ goesOn → eqb (messageType (first p)) voice2 ≡ true → (m : Midi1) (ms : List Midi1)
+  pub sends : screen voice1 p .answer ≡ goesOn → eqb (messageType (first p)) voice2 ≡ true
+      → (m : Midi1) (ms : List Midi1)
       → lower (read2 (first p) (second p)) ≡ m ∷ ms
       → P (went sent (map (write1 (groupOf (first p)) (channelOf (first p))) (m ∷ ms)) tt)
 
@@ -99,7 +105,8 @@ pub down-cases : (P : Call (Unit {0}) → Type 0) (p : List ℕ) → DownCases P
 unfolding packetDown speakDown
 down-cases P p d =
     screened-cases P (screen voice1 p) tt (actDown p)
-    (λ f. choose P (eqb (messageType (first p)) voice2) (λ e. go f e (lower (read2 (first p) (second p))) refl) (d .onward f))
+    (λ f. choose P (eqb (messageType (first p)) voice2) (λ e. go f e (lower (read2 (first p) (second p))) refl)
+    (d .onward f))
     (d .refuses)
   where
     go : screen voice1 p .answer ≡ goesOn → eqb (messageType (first p)) voice2 ≡ true → (ms : List Midi1)
@@ -138,17 +145,17 @@ down-does A p three =
     })
 
 -- at most four words are sent
-abbrev Few : {T : Type 0} → Call T → Type 0
-Few c = length (sentOf c) ≤ 4
+abbrev UpToFour : {T : Type 0} → Call T → Type 0
+UpToFour c = length (sentOf c) ≤ 4
 
-refused-few : {T : Type 0} (a : ℕ) (t : T) → Few (refused a t)
-refused-few a t = rw (refusal a t [] (λ _. refl) .2) (omega arith)
+refused-four : {T : Type 0} (a : ℕ) (t : T) → UpToFour (refused a t)
+refused-four a t = rw (refusal a t [] (λ _. refl) .2) (omega arith)
 
 pub few-up : (r : Record) (p : List ℕ) → length p ≤ 4 → length (sentOf (packetUp r p)) ≤ 4
 few-up r p h =
-    up-cases Few r p
+    up-cases UpToFour r p
     (record {
-      refuses = λ _. refused-few (screen voice2 p .answer) r;
+      refuses = λ _. refused-four (screen voice2 p .answer) r;
       onward = λ _ _. h;
       unsound = λ _ _ _. omega arith;
       takes = λ _ _ _ _. omega arith;
@@ -157,9 +164,9 @@ few-up r p h =
 
 pub few-down : (p : List ℕ) → length p ≤ 4 → length (sentOf (packetDown p)) ≤ 4
 few-down p h =
-    down-cases Few p
+    down-cases UpToFour p
     (record {
-      refuses = λ _. refused-few (screen voice1 p .answer) tt;
+      refuses = λ _. refused-four (screen voice1 p .answer) tt;
       onward = λ _ _. h;
       formless = λ _ _ _. omega arith;
       sends = λ _ _ m ms k.
@@ -168,7 +175,8 @@ few-down p h =
     })
 
 -- a MIDI 1.0 voice message by its one word
-pub packet-voice1 : (r : Record) (w : ℕ) → messageType w ≡ 2 → packetUp r (w ∷ []) ≡ screened (checkVoice1 w) r (speakUp r w)
+pub packet-voice1 : (r : Record) (w : ℕ) → messageType w ≡ 2
+    → packetUp r (w ∷ []) ≡ screened (checkVoice1 w) r (speakUp r w)
 unfolding packetUp
 packet-voice1 r w h = rw (screen-voice1 w h, h)
 
@@ -207,5 +215,6 @@ unchanged-in-room room r p = go (packetUp r p) (unchanged-up r p) (refused-up r 
         → changedBy (changesAt p) (fit room c) ≡ false → leftOf (room, r) (fit room c) .1 ≡ r
     go (stopped a) f g = λ _. refl
     go (went a ws u) f g =
-        choose (λ (c : Call (ℕ × Record)). changedBy (changesAt p) c ≡ false → leftOf (room, r) c .1 ≡ r) (leb (length ws) room)
+        choose (λ (c : Call (ℕ × Record)). changedBy (changesAt p) c ≡ false → leftOf (room, r) c .1 ≡ r)
+        (leb (length ws) room)
         (λ _ h. by-bool (leb a takenIn) (λ e. f (rw e at h)) g) (λ _ _. refl)
