@@ -1,6 +1,7 @@
 -- Going by cases on a test. Assumes nothing.
 use mathlib.Core.Path.{_≡_, refl, sym, subst}
-use mathlib.Core.Bool.{Bool, true, false, cond}
+use mathlib.Core.Bool.{Bool, true, false, cond, not}
+use lib.Dec.{T}
 
 -- with the equation
 pub by-bool {ℓ} : {X : Type ℓ} (b : Bool) → (b ≡ true → X) → (b ≡ false → X) → X
@@ -19,3 +20,8 @@ IsTrue false = ⊥
 
 pub not-both {ℓ} : {X : Type ℓ} → false ≡ true → X
 not-both e = absurd (subst IsTrue (sym e) tt)
+
+-- what a walk learns where a test fails
+pub not-held : (b : Bool) → T (not b) → b ≡ false
+not-held true h = absurd h
+not-held false h = refl

@@ -6,16 +6,19 @@ use lib.ListN.{drop, length}
 use lib.Dec.{eqb, ltb}
 use Rattle.stream.specs.declared.Done.{Done}
 use Rattle.stream.specs.Answers.{noTable, sent}
-use Rattle.stream.specs.Call.{Call, within}
+use Rattle.stream.specs.Call.{Call, leftOf, sentOf, within}
 use Rattle.stream.specs.Report.{counting, further}
-use Rattle.stream.specs.Run.{Ran}
+use Rattle.stream.specs.Run.{Ran, called}
 use Rattle.channel.specs.declared.Record.{Record}
 use Rattle.channel.specs.Record.{wholeTable}
-use Rattle.voice.specs.Packet.{callUp}
-use Rattle.voice.specs.Turn.{next}
-use Rattle.table.specs.Table.{oneUp, runUp, tableUp}
+use Rattle.ump.specs.Packet.{packet}
+use Rattle.ground.specs.Store.{written}
+use Rattle.voice.specs.Packet.{callUp, changesAt}
+use Rattle.voice.specs.Turn.{changedBy, next}
+use Rattle.table.specs.Table.{runBy, tableUp}
 use Rattle.table.specs.declared.Job.{Job}
 use Rattle.table.specs.declared.Progress.{Progress}
+use Rattle.table.specs.declared.RecordAndProgress.{RecordAndProgress}
 
 -- what the loop is told: one call, or a run
 abbrev pub oneCall : Job
@@ -31,8 +34,11 @@ recordStep job = callUp
 unfoldable pub tableStep : Job → List Record → List ℕ → Call (List Record)
 tableStep job = tableUp
 
+abbrev pub askedBy : (List Record → List ℕ → Call (List Record)) → Bool → ℕ → List Record → List ℕ → Ran (ℕ × List Record)
+askedBy step once room t s = cond once (called (packet s) (room, t) (within step (room, t) s)) (runBy step room t s)
+
 unfoldable pub asked : Job → ℕ → List Record → List ℕ → Ran (ℕ × List Record)
-asked job room t s = cond (job .once) (oneUp room t s) (runUp room t s)
+asked job room t s = askedBy (tableStep job) (job .once) room t s
 
 -- in a table of n records and l words: a call is made whatever there is, a run where there is a word
 abbrev pub opening : Bool → ℕ → ℕ → Progress
@@ -56,3 +62,19 @@ onward once l p d =
 
 unfoldable pub after : {T : Type 0} → Job → List ℕ → Progress → Call (ℕ × T) → Progress
 after job ws p c = onward (job .once) (length ws) p (further (p .done) (next ws (p .done)) c)
+
+-- the state that a call at the next packet leaves, and the output after it
+abbrev pub stateAfter : {T : Type 0} → (T → List ℕ → Call T) → List ℕ → Progress → T → List ℕ → T
+stateAfter step ws p t out = leftOf (length out - p .done .written, t) (callAt step ws p t out) .1
+
+abbrev pub outputAfterCall : {T : Type 0} → (T → List ℕ → Call T) → List ℕ → Progress → T → List ℕ → List ℕ
+outputAfterCall step ws p t out = written (p .done .written) (sentOf (callAt step ws p t out)) out
+
+-- one packet with its record
+unfoldable pub stepped : Job → List ℕ → Progress → Record → List ℕ → RecordAndProgress
+stepped job ws p r out =
+    record {
+      after = stateAfter (recordStep job) ws p r out;
+      changes = changedBy (changesAt (next ws (p .done))) (callAt (recordStep job) ws p r out);
+      progress = after job ws p (callAt (recordStep job) ws p r out);
+    }

@@ -11,6 +11,14 @@ use stream::SENT;
 use stream::report;
 ghost use mathlib.Core.Path.{_≡_};
 ghost use mathlib.Core.Bool.{cond};
+ghost use lib.ListN.{getD, length};
+ghost use Rattle.ground.specs.Store.{atStart};
+ghost use Rattle.ump.specs.Word.{placeOf};
+ghost use Rattle.stream.specs.Answers.{sent};
+ghost use Rattle.stream.specs.Report.{reported};
+ghost use Rattle.channel.specs.Record.{wholeTable};
+ghost use Rattle.table.specs.Table.{tableAfter};
+ghost use Rattle.table.specs.Progress.{after, asked, begun, callAt, oneCall, outputAfterCall, recordStep, stateAfter, stepped, tableStep, wholeRun};
 
 // What the loop is told: whether it is to make one call only.
 pub struct Job {
@@ -31,16 +39,20 @@ pub struct RecordAndProgress {
 }
 
 pub fn one_call() -> Job
+    ensures { λ r. ⌜ r ≡ oneCall ⌝ }
 {
     Job { once: true }
 }
 
 pub fn whole_run() -> Job
+    ensures { λ r. ⌜ r ≡ wholeRun ⌝ }
 {
     Job { once: false }
 }
 
+// Before the first packet of a table of n records.
 fn start(n: usize, words: usize, job: Job) -> Progress
+    ensures { λ r. ⌜ r ≡ begun job n words ⌝ }
 {
     if n == RECORDS {
         return Progress {
@@ -56,6 +68,7 @@ fn start(n: usize, words: usize, job: Job) -> Progress
 
 // Where the next packet's record stands.
 fn place_of(words: &[u32], p: Progress) -> usize
+    ensures { λ r. ⌜ r ≡ placeOf (getD (now (words .entry)) (p .done .read) 0) ⌝ }
 {
     let done = p.done;
     let w = ump::word_at(words, done.read);
@@ -63,12 +76,15 @@ fn place_of(words: &[u32], p: Progress) -> usize
 }
 
 fn answer_of(last: bool, answer: u32) -> u32
+    ensures { λ r. ⌜ r ≡ cond last answer sent ⌝ }
 {
     if last { answer } else { SENT }
 }
 
 // One packet, with its record.
 fn step(words: &[u32], job: Job, p: Progress, record: Record, out: &mut [u32]) -> RecordAndProgress
+    ensures step { λ r. ⌜ r ≡ stepped job (now (words .entry)) p «record» (now (out .entry)) ⌝ }
+    ensures output { λ _. ⌜ now (out .exit) ≡ outputAfterCall (recordStep job) (now (words .entry)) p «record» (now (out .entry)) ⌝ }
 {
     let past = p.done;
     let turned = voice::up(words, past, record, out);
@@ -88,6 +104,13 @@ fn step(words: &[u32], job: Job, p: Progress, record: Record, out: &mut [u32]) -
 
 // One call with the table, which is a whole one.
 fn one(words: &[u32], job: Job, p: Progress, table: &mut [Record], out: &mut [u32]) -> Progress
+    requires { ⌜ length (now table) ≡ wholeTable ⌝ }
+    ensures progress { λ r. ⌜ r
+        ≡ after job (now (words .entry)) p (callAt (tableStep job) (now (words .entry)) p (now (table .entry)) (now (out .entry))) ⌝ }
+    ensures table { λ _. ⌜ now (table .exit)
+        ≡ stateAfter (tableStep job) (now (words .entry)) p (now (table .entry)) (now (out .entry)) ⌝ }
+    ensures output { λ _. ⌜ now (out .exit)
+        ≡ outputAfterCall (tableStep job) (now (words .entry)) p (now (table .entry)) (now (out .entry)) ⌝ }
 {
     let i = place_of(words, p);
     let s = step(words, job, p, table[i], out);
@@ -101,6 +124,12 @@ fn one(words: &[u32], job: Job, p: Progress, table: &mut [Record], out: &mut [u3
 
 // The call at the start of the words, or the run over all of them.
 pub fn treat(words: &[u32], job: Job, table: &mut [Record], out: &mut [u32]) -> Done
+    ensures report { λ r. ⌜ r
+        ≡ reported (asked job (length (now (out .entry))) (now (table .entry)) (now (words .entry))) ⌝ }
+    ensures table { λ _. ⌜ now (table .exit)
+        ≡ tableAfter (asked job (length (now (out .entry))) (now (table .entry)) (now (words .entry))) ⌝ }
+    ensures output { λ _. ⌜ now (out .exit) ≡ atStart
+        (asked job (length (now (out .entry))) (now (table .entry)) (now (words .entry)) .sends) (now (out .entry)) ⌝ }
 {
     let mut p = start(table.len(), words.len(), job);
     while p.more {

@@ -1,7 +1,7 @@
 -- `table::treat` meets its contract: a walk of its MIR. In each turn of the loop the table and the output are lent again to `one`, for two lifetimes that are made for the call, and come back (`Again.antt`). What the loop keeps is `Turns.antt`'s `Turn`.
 -- Assumes nothing.
 use mathlib.Core.Path.{_≡_, refl, sym, ap, subst}
-use Prim.Native.Nat.{ℕ, _<_, _^_}
+use Prim.Native.Nat.{ℕ}
 use mathlib.Core.Bool.{Bool, true, false}
 use mathlib.Core.List.{[], _∷_, List}
 use lib.ListN.{length}
@@ -35,18 +35,27 @@ use denote.Triple.Spec.{Meets, tripleOf}
 use denote.Triple.Statement.{Triple}
 use denote.Triple.Call.{calls-at, calls-at-last}
 use denote.Triple.Table.{entered, cited}
-use denote.Triple.Walked.{says, Stays, stay-none, stay-slice, stay-none-slice, walkOf, goes-none, goes-slice, goes-none-slice, Walks, ends-at, walked, walk-meets}
+use denote.Triple.Walked.{says, needs, Stays, stay-none, stay-slice, stay-none-slice, walkOf, goes-none, goes-slice, goes-none-slice, Walks, ends-at, walked, walk-meets}
 use denote.Exit.{yes}
 use denote.Signature.{plain}
 use Rattle.channel.specs.declared.Record.{Record}
 use Rattle.table.specs.declared.Progress.{Progress}
-use Rattle.table.specs.Loop.{State, oneOf, startOf, treated}
+use Rattle.table.specs.declared.Job.{Job}
+use Rattle.stream.proofs.Done.Laws as TD′
+use Rattle.ground.specs.Store.{atStart}
+use Rattle.stream.specs.Report.{reported}
+use Rattle.stream.specs.Run.{Ran}
+use Rattle.voice.proofs.DownLoop.{reports}
+use Rattle.table.specs.Table.{tableAfter}
+use Rattle.table.specs.Progress.{asked, begun}
+use Rattle.table.proofs.Job.Laws as TJ′
 use Rattle.table.proofs.Progress.Laws as TP′
-use Rattle.table.proofs.Values.{R, P, valP, valsP, typedP, madeP, tyWords, tyOut, tyOutRef, tyTable, tyTableRef}
-use Rattle.table.proofs.More.{use6, by-bool}
+use Rattle.table.proofs.Values.{R, J, valJ, valsJ, tellsJ, typedJ, madeJ, P, valP, valsP, typedP, D, valD, valsD, typedD, madeD, done-is, tyWords, tyOut, tyOutRef, tyTable, tyTableRef}
+use Rattle.ground.proofs.More.{says3, use6}
+use Rattle.ground.proofs.Cases.{by-bool}
 use Rattle.table.proofs.Calls.{Start, to-start, start-pre, start-post, One, to-one, one-pre, one-post}
-use Rattle.table.proofs.Again.{LentAgain, lends-again, comes-back}
-use Rattle.table.proofs.Turns.{Turn, begun, Fewer, Fewer-wf, next, fewer, ended-at, first-turn}
+use Rattle.ground.proofs.Again.{LentAgain, lends-again, comes-back}
+use Rattle.table.proofs.Turns.{State, Turn, begun-at, nextOf, Fewer, Fewer-wf, going, next-turn, fewer, ended, first-turn}
 use Rattle.table.proofs.one.Symbol as one-def
 use Rattle.table.proofs.one.Symbol.{name as #table·one}
 use Rattle.table.proofs.one.Met as one-thm
@@ -60,18 +69,18 @@ use Rattle.table.proofs.treat.Code as code
 use Rattle.table.proofs.treat.Code.Mir as body
 
 abbrev stayed : Stays (go.ended .signature .params) (go.ended .kept)
-stayed = (stay-none-slice (0 ∷ []) tt (plain (λ _. u32)) yes, (stay-none (λ _. usize) yes, (stay-slice (1 ∷ []) tt (plain (λ _. R)), (stay-slice (2 ∷ []) tt (plain (λ _. u32)), tt))))
+stayed = (stay-none-slice (0 ∷ []) tt (plain (λ _. u32)) yes, (stay-none (λ _. J) yes, (stay-slice (1 ∷ []) tt (plain (λ _. R)), (stay-slice (2 ∷ []) tt (plain (λ _. u32)), tt))))
 
-module _ {M : Type 1} (𝓤 : URA M) (H : Heap 𝓤) (A : Atoms 𝓤) (W : Given 𝓤 H A) (at-mem : Memory → SProp 𝓤) (run : Routine → Fun 𝓤) (κ₀ κ₁ κ₂ : Lft) (q₀ q₁ q₂ : Share) (w : RefT (List ℕ)) (end : ℕ) (b o : ℕ) (γ : GName) (tb : List Record) (c u : ℕ) (η : GName) (out : List ℕ)
-    (room₀ : Room u32 (length (w .now))) (end-fits : end < 2 ^ 64) (room₁ : Room R (length tb)) (room₂ : Room u32 (length out)) where
+module _ {M : Type 1} (𝓤 : URA M) (H : Heap 𝓤) (A : Atoms 𝓤) (W : Given 𝓤 H A) (at-mem : Memory → SProp 𝓤) (run : Routine → Fun 𝓤) (κ₀ κ₁ κ₂ : Lft) (q₀ q₁ q₂ : Share) (w : RefT (List ℕ)) (j : Job) (b o : ℕ) (γ : GName) (tb : List Record) (c u : ℕ) (η : GName) (out : List ℕ)
+    (room₀ : Room u32 (length (w .now))) (is-j : Is J j (valsJ j)) (room₁ : Room R (length tb)) (room₂ : Room u32 (length out)) where
   abbrev Arg : Type 0
-  Arg = RefT (List ℕ) × (ℕ × (RefT (List Record) × (RefT (List ℕ) × Unit {0})))
+  Arg = RefT (List ℕ) × (Job × (RefT (List Record) × (RefT (List ℕ) × Unit {0})))
 
   abbrev a : Arg
-  a = (w, (end, (record { ptr = (b, o); name = γ; now = tb }, (record { ptr = (c, u); name = η; now = out }, tt))))
+  a = (w, (j, (record { ptr = (b, o); name = γ; now = tb }, (record { ptr = (c, u); name = η; now = out }, tt))))
 
   abbrev at : List Val × (List Val × (List Val × (List Val × Unit {0})))
-  at = (slice-vals w, (vint w64 end ∷ [], (sliceVal (b, o) (length tb) ∷ [], (sliceVal (c, u) (length out) ∷ [], tt))))
+  at = (slice-vals w, (valsJ j, (sliceVal (b, o) (length tb) ∷ [], (sliceVal (c, u) (length out) ∷ [], tt))))
 
   abbrev Bound : walkOf 𝓤 H A go.ended stayed (go.clauses 𝓤 H A at-mem run) .Ghost
   Bound = (((κ₀, (κ₁, (κ₂, tt))), (q₀, (q₁, (q₂, tt))), tt, a, at), tt)
@@ -90,7 +99,7 @@ module _ {M : Type 1} (𝓤 : URA M) (H : Heap 𝓤) (A : Atoms 𝓤) (W : Given
   Own₂ os = MutSlice (named 2) κ₂ u32 .own (record { ptr = (c, u); name = η; now = os }) (sliceVal (c, u) (length os) ∷ [])
 
   abbrev p₀ : Progress
-  p₀ = startOf (length tb) end
+  p₀ = begun j (length tb) (length (w .now))
 
   -- the two as they are lent on
   abbrev x₁ : GName → State → RefT (List Record)
@@ -100,25 +109,28 @@ module _ {M : Type 1} (𝓤 : URA M) (H : Heap 𝓤) (A : Atoms 𝓤) (W : Given
   y₂ ε s = record { ptr = (c, u); name = ε; now = s .out }
 
   abbrev to : ℕ → ℕ → GName → GName → State → One 𝓤 H A W at-mem run .Ghost
-  to α β δ ε s = to-one 𝓤 H A W at-mem run κ₀ (α ∷ []) (β ∷ []) q₀ fullShare fullShare w end (x₁ δ s) (y₂ ε s) (s .p)
+  to α β δ ε s = to-one 𝓤 H A W at-mem run κ₀ (α ∷ []) (β ∷ []) q₀ fullShare fullShare w j (x₁ δ s) (y₂ ε s) (s .p)
+
+  abbrev asked-for : Ran (ℕ × List Record)
+  asked-for = asked j (length out) tb (w .now)
 
   abbrev Said : State → Type 0
-  Said s = (s .p ≡ treated (w .now) end tb out .p) × (s .tb ≡ treated (w .now) end tb out .tb) × (s .out ≡ treated (w .now) end tb out .out)
+  Said s = (s .p .done ≡ reported asked-for) × (s .tb ≡ tableAfter asked-for) × (s .out ≡ atStart (asked-for .sends) out)
 
-  said : (t : Turn (w .now) end tb out) → t .st .p .more ≡ false → Said (t .st)
-  said t e = let h = ended-at (w .now) end tb out t e in (ap (λ (s : State). s .p) h, ap (λ (s : State). s .tb) h, ap (λ (s : State). s .out) h)
+  said : (t : Turn (w .now) j tb out) → t .st .p .more ≡ false → Said (t .st)
+  said t e = let d = ended (w .now) j tb out t e in (reports d, d .leaves, d .holds)
 
   exits : (s : State) → Is P (s .p) (valsP (s .p)) → length (s .tb) ≡ length tb → length (s .out) ≡ length out → Said s
-      → ent 𝓤 (⋆ 𝓤 H A (‵ (flft κ₀ q₀) ∷ ‵ (flft κ₁ q₁) ∷ ‵ (flft κ₂ q₂) ∷ ‵ Own₀ ∷ ‵ (Own₁ (s .tb)) ∷ ‵ (Own₂ (s .out)) ∷ [])) (Post (valP (s .p)))
+      → ent 𝓤 (⋆ 𝓤 H A (‵ (flft κ₀ q₀) ∷ ‵ (flft κ₁ q₁) ∷ ‵ (flft κ₂ q₂) ∷ ‵ Own₀ ∷ ‵ (Own₁ (s .tb)) ∷ ‵ (Own₂ (s .out)) ∷ [])) (Post (valD (s .p .done)))
   exits s is-p l₁ l₂ so =
       qed W (‵ (flft κ₀ q₀) ∷ ‵ (flft κ₁ q₁) ∷ ‵ (flft κ₂ q₂) ∷ ‵ Own₀ ∷ ‵ (Own₁ (s .tb)) ∷ ‵ (Own₂ (s .out)) ∷ []) ∵
-      suffices ! _ (ends-at 𝓤 H A go.ended stayed (go.clauses 𝓤 H A at-mem run) W Bound (valP (s .p)) (s .p) (tt, (tt, (s .tb, (s .out, tt)))) (tt, (tt, (l₁, (l₂, tt))))) $ says ! so $
+      suffices ! _ (ends-at 𝓤 H A go.ended stayed (go.clauses 𝓤 H A at-mem run) W Bound (valD (s .p .done)) (s .p .done) (tt, (tt, (s .tb, (s .out, tt)))) (tt, (tt, (l₁, (l₂, tt))))) $ says3 ! so $
       nothing ! $ move ! (3 ∷ 0 ∷ []) $ join ! $ move ! (2 ∷ 0 ∷ []) $ join ! $ move ! (1 ∷ 0 ∷ []) $ join ! $ frame ! $
       rewrite ! 1 (λ (m : ℕ). ‵ (MutSlice (named 1) κ₁ R .own (record { ptr = (b, o); name = γ; now = s .tb }) (sliceVal (b, o) m ∷ []))) l₁ refl $
       rewrite ! 2 (λ (m : ℕ). ‵ (MutSlice (named 2) κ₂ u32 .own (record { ptr = (c, u); name = η; now = s .out }) (sliceVal (c, u) m ∷ []))) l₂ refl $
-      nothing ! $ move ! (3 ∷ 0 ∷ []) $ fjoin ! $ move ! (2 ∷ 0 ∷ []) $ fjoin ! $ owned ! usize (Is usize) (uint-makes 𝓤 H A W w64) end _ (refl, end-fits) $ fjoin ! $ move ! (1 ∷ 0 ∷ []) $ fjoin ! $ frame ! $ owned ! P (Is P) (madeP 𝓤 H A W) (s .p) _ is-p $ done !
+      nothing ! $ move ! (3 ∷ 0 ∷ []) $ fjoin ! $ move ! (2 ∷ 0 ∷ []) $ fjoin ! $ owned ! J (Is J) (madeJ 𝓤 H A W) j _ is-j $ fjoin ! $ move ! (1 ∷ 0 ∷ []) $ fjoin ! $ frame ! $ owned ! D (Is D) (madeD 𝓤 H A W) (s .p .done) _ (done-is (s .p) is-p) $ done !
 
-  module _ (𝓣 : Tables 𝓤 H) (known-one : Triple 𝓤 (𝓣 .C #table·one) (One 𝓤 H A W at-mem run)) (l0 l1 l2 l3 l4 l5 l6 l7 l8 l9 l10 l11 : ℕ) where
+  module _ (𝓣 : Tables 𝓤 H) (known-one : Triple 𝓤 (𝓣 .C #table·one) (One 𝓤 H A W at-mem run)) (l0 l1 l2 l3 l4 l5 l6 l7 l8 l9 l10 l11 l12 : ℕ) where
     abbrev C : Calls 𝓤 H
     C = 𝓣 .C
 
@@ -129,35 +141,36 @@ module _ {M : Type 1} (𝓤 : URA M) (H : Heap 𝓤) (A : Atoms 𝓤) (W : Given
     fm = fmOf 𝓤 H (W .laws) 𝓣
 
     abbrev E : Env 𝓤 H
-    E = (TP′.mir, l0) ∷ ((tyWords (named 0)), l1) ∷ ((tyInt w64), l2) ∷ ((tyTable (named 1)), l3) ∷ ((tyOut (named 2)), l4) ∷ (TP′.mir, l5) ∷ ((tyInt w64), l6) ∷ (tyBool, l7) ∷ (tyTableRef, l8) ∷ ((tyTable erased), l9) ∷ (tyOutRef, l10) ∷ ((tyOut erased), l11) ∷ []
+    E = (TD′.mir, l0) ∷ ((tyWords (named 0)), l1) ∷ (TJ′.mir, l2) ∷ ((tyTable (named 1)), l3) ∷ ((tyOut (named 2)), l4) ∷ (TP′.mir, l5) ∷ ((tyInt w64), l6) ∷ ((tyInt w64), l7) ∷ (tyBool, l8) ∷ (tyTableRef, l9) ∷ ((tyTable erased), l10) ∷ (tyOutRef, l11) ∷ ((tyOut erased), l12) ∷ []
 
     -- what a turn begins with, at a state
     abbrev At : State → List (Item 𝓤)
-    At s = ‵ (Own₁ (s .tb)) ∷ ‵ (flft κ₁ q₁) ∷ ‵ (Own₂ (s .out)) ∷ ‵ (flft κ₂ q₂) ∷ ‵ Own₀ ∷ ‵ (flft κ₀ q₀) ∷ ‵ (froom (tyOut erased) l11 0) ∷ ‵ (fdies (tyOut erased) l11) ∷ ‵ (froom tyOutRef l10 0) ∷ ‵ (fdies tyOutRef l10) ∷ ‵ (froom (tyTable erased) l9 0) ∷ ‵ (fdies (tyTable erased) l9) ∷ ‵ (froom tyTableRef l8 0) ∷ ‵ (fdies tyTableRef l8) ∷ ‵ (froom tyBool l7 0) ∷ ‵ (fdies tyBool l7) ∷ ‵ (froom (tyInt w64) l6 0) ∷ ‵ (fdies (tyInt w64) l6) ∷ ‵ (fat fullShare TP′.mir l5 0 (valP (s .p))) ∷ ‵ (fdies TP′.mir l5) ∷ ‵ (fat fullShare (tyOut (named 2)) l4 0 (sliceVal (c, u) (length (s .out)))) ∷ ‵ (fdies (tyOut (named 2)) l4) ∷ ‵ (fat fullShare (tyTable (named 1)) l3 0 (sliceVal (b, o) (length (s .tb)))) ∷ ‵ (fdies (tyTable (named 1)) l3) ∷ ‵ (fat fullShare (tyInt w64) l2 0 (vint w64 end)) ∷ ‵ (fdies (tyInt w64) l2) ∷ ‵ (fat fullShare (tyWords (named 0)) l1 0 (sliceVal (w .ptr) (length (w .now)))) ∷ ‵ (fdies (tyWords (named 0)) l1) ∷ ‵ (froom TP′.mir l0 0) ∷ ‵ (fdies TP′.mir l0) ∷ []
+    At s = ‵ (Own₁ (s .tb)) ∷ ‵ (flft κ₁ q₁) ∷ ‵ (Own₂ (s .out)) ∷ ‵ (flft κ₂ q₂) ∷ ‵ Own₀ ∷ ‵ (flft κ₀ q₀) ∷ ‵ (froom (tyOut erased) l12 0) ∷ ‵ (fdies (tyOut erased) l12) ∷ ‵ (froom tyOutRef l11 0) ∷ ‵ (fdies tyOutRef l11) ∷ ‵ (froom (tyTable erased) l10 0) ∷ ‵ (fdies (tyTable erased) l10) ∷ ‵ (froom tyTableRef l9 0) ∷ ‵ (fdies tyTableRef l9) ∷ ‵ (froom tyBool l8 0) ∷ ‵ (fdies tyBool l8) ∷ ‵ (froom (tyInt w64) l7 0) ∷ ‵ (fdies (tyInt w64) l7) ∷ ‵ (froom (tyInt w64) l6 0) ∷ ‵ (fdies (tyInt w64) l6) ∷ ‵ (fat fullShare TP′.mir l5 0 (valP (s .p))) ∷ ‵ (fdies TP′.mir l5) ∷ ‵ (fat fullShare (tyOut (named 2)) l4 0 (sliceVal (c, u) (length (s .out)))) ∷ ‵ (fdies (tyOut (named 2)) l4) ∷ ‵ (fat fullShare (tyTable (named 1)) l3 0 (sliceVal (b, o) (length (s .tb)))) ∷ ‵ (fdies (tyTable (named 1)) l3) ∷ ‵ (fat fullShare TJ′.mir l2 0 (valJ j)) ∷ ‵ (fdies TJ′.mir l2) ∷ ‵ (fat fullShare (tyWords (named 0)) l1 0 (sliceVal (w .ptr) (length (w .now)))) ∷ ‵ (fdies (tyWords (named 0)) l1) ∷ ‵ (froom TD′.mir l0 0) ∷ ‵ (fdies TD′.mir l0) ∷ []
 
-    abbrev I : Turn (w .now) end tb out → List (Item 𝓤)
+    abbrev I : Turn (w .now) j tb out → List (Item 𝓤)
     I t = At (t .st)
 
     -- a turn's postcondition
-    abbrev Turned : Turn (w .now) end tb out → Out → SProp 𝓤
-    Turned t = afterTurn 𝓤 H (Below 𝓤 H A (Fewer (w .now) end tb out) I t) (afterBlock 𝓤 H (afterSeq 𝓤 H (Wp 𝓤 H C Λ E body.t-4 (atReturn 𝓤 H E Post)) (atReturn 𝓤 H E Post)))
+    abbrev Turned : Turn (w .now) j tb out → Out → SProp 𝓤
+    Turned t = afterTurn 𝓤 H (Below 𝓤 H A (Fewer (w .now) j tb out) I t) (afterBlock 𝓤 H (afterSeq 𝓤 H (Wp 𝓤 H C Λ E body.t-5 (atReturn 𝓤 H E Post)) (atReturn 𝓤 H E Post)))
 
-    leaves : (s : State) → Is P (s .p) (valsP (s .p)) → length (s .tb) ≡ length tb → length (s .out) ≡ length out → Said s → Sq W (At s) (runs C Λ E body.t-4 (atRet E Post))
+    leaves : (s : State) → Is P (s .p) (valsP (s .p)) → length (s .tb) ≡ length tb → length (s .out) ≡ length out → Said s → Sq W (At s) (runs C Λ E body.t-5 (atRet E Post))
     leaves s is-p l₁ l₂ so =
-        assigns ! (of-opd ! (load ! (from ! (stop !)) (look ! 18 refl))) (from ! (stop !)) (init ! 28 refl (typedP 𝓤 H A W (s .p) is-p)) $ returns ! (look ! 28 refl) $ forget ! 28 refl $ forget ! 26 refl $ forget ! 24 refl $ forget ! 22 refl $ forget ! 20 refl $
-        forget ! 18 refl $ move ! (28 ∷ 29 ∷ []) $ free1 ! $ move ! (26 ∷ 27 ∷ []) $ free1 ! $ move ! (24 ∷ 25 ∷ []) $ free1 ! $ move ! (22 ∷ 23 ∷ []) $ free1 ! $ move ! (20 ∷ 21 ∷ []) $ free1 ! $ move ! (18 ∷ 19 ∷ []) $ free1 ! $ move ! (16 ∷ 17 ∷ []) $ free1 ! $
-        move ! (14 ∷ 15 ∷ []) $ free1 ! $ move ! (12 ∷ 13 ∷ []) $ free1 ! $ move ! (10 ∷ 11 ∷ []) $ free1 ! $ move ! (8 ∷ 9 ∷ []) $ free1 ! $ move ! (6 ∷ 7 ∷ []) $ free1 ! $ free0 ! $ keep ! (5 ∷ 1 ∷ 3 ∷ 4 ∷ 0 ∷ 2 ∷ []) $ by ! (exits s is-p l₁ l₂ so)
+        assigns ! (of-opd ! (load ! (from ! (fld ! refl (stop !))) (look-in ! 20 (sub ! 0 refl (whole !))))) (from ! (stop !)) (init ! 30 refl (typedD 𝓤 H A W (s .p .done) (done-is (s .p) is-p))) $ returns ! (look ! 30 refl) $ forget ! 30 refl $ forget ! 28 refl $
+        forget ! 26 refl $ forget ! 24 refl $ forget ! 22 refl $ forget ! 20 refl $ move ! (30 ∷ 31 ∷ []) $ free1 ! $ move ! (28 ∷ 29 ∷ []) $ free1 ! $ move ! (26 ∷ 27 ∷ []) $ free1 ! $ move ! (24 ∷ 25 ∷ []) $ free1 ! $ move ! (22 ∷ 23 ∷ []) $ free1 ! $
+        move ! (20 ∷ 21 ∷ []) $ free1 ! $ move ! (18 ∷ 19 ∷ []) $ free1 ! $ move ! (16 ∷ 17 ∷ []) $ free1 ! $ move ! (14 ∷ 15 ∷ []) $ free1 ! $ move ! (12 ∷ 13 ∷ []) $ free1 ! $ move ! (10 ∷ 11 ∷ []) $ free1 ! $ move ! (8 ∷ 9 ∷ []) $ free1 ! $ move ! (6 ∷ 7 ∷ []) $
+        free1 ! $ free0 ! $ keep ! (5 ∷ 1 ∷ 3 ∷ 4 ∷ 0 ∷ 2 ∷ []) $ by ! (exits s is-p l₁ l₂ so)
 
-    more : (t : Turn (w .now) end tb out) → t .st .p .more ≡ true → Sq W (I t) (runs C Λ E body.turn-1 (anyQ (Turned t)))
+    more : (t : Turn (w .now) j tb out) → t .st .p .more ≡ true → Sq W (I t) (runs C Λ E body.turn-1 (anyQ (Turned t)))
     unfolding afterTurn
     more t e =
-        let s : State = t .st in let s′ : State = oneOf (w .now) end s in let is-p : Is P (s .p) (valsP (s .p)) = t .good in
+        let s : State = t .st in let s′ : State = nextOf j (w .now) s in let is-p : Is P (s .p) (valsP (s .p)) = t .good in
         let r₁ : Room R (length (s .tb)) = subst (Room R) (sym (t .tb-long)) room₁ in let r₂ : Room u32 (length (s .out)) = subst (Room u32) (sym (t .out-long)) room₂ in
-        assigns ! (of-opd ! (load ! (from ! (fld ! refl (stop !))) (look-in ! 18 (sub ! 3 refl (whole !))))) (from ! (stop !)) (init ! 14 refl (tt, tt)) $ rewrite ! 14 (λ (z : Bool). ‵ (fat fullShare tyBool l7 0 (vbool z))) e refl $
-        stays ! (load ! (from ! (stop !)) (look ! 14 refl)) $ assigns ! (addr ! (from ! (fld ! refl (hop ! (look-in ! 22 (sub ! 0 refl (whole !))) (stop !))))) (from ! (stop !)) (init ! 12 refl (tt, tt)) $
-        assigns ! (agg ! (and-then ! (load ! (from ! (stop !)) (look ! 12 refl)) (and-then ! (load ! (from ! (fld ! refl (stop !))) (look-in ! 22 (sub ! 1 refl (whole !)))) (no-more !)))) (from ! (stop !)) (init ! 10 refl (tt, (tt, (record { fits = r₁ .0 }, tt)))) $
-        assigns ! (addr ! (from ! (fld ! refl (hop ! (look-in ! 20 (sub ! 0 refl (whole !))) (stop !))))) (from ! (stop !)) (init ! 8 refl (tt, tt)) $
-        assigns ! (agg ! (and-then ! (load ! (from ! (stop !)) (look ! 8 refl)) (and-then ! (load ! (from ! (fld ! refl (stop !))) (look-in ! 20 (sub ! 1 refl (whole !)))) (no-more !)))) (from ! (stop !)) (init ! 6 refl (tt, (tt, (record { fits = r₂ .0 }, tt)))) $
+        assigns ! (of-opd ! (load ! (from ! (fld ! refl (stop !))) (look-in ! 20 (sub ! 1 refl (whole !))))) (from ! (stop !)) (init ! 14 refl (tt, tt)) $ rewrite ! 14 (λ (z : Bool). ‵ (fat fullShare tyBool l8 0 (vbool z))) e refl $
+        stays ! (load ! (from ! (stop !)) (look ! 14 refl)) $ assigns ! (addr ! (from ! (fld ! refl (hop ! (look-in ! 24 (sub ! 0 refl (whole !))) (stop !))))) (from ! (stop !)) (init ! 12 refl (tt, tt)) $
+        assigns ! (agg ! (and-then ! (load ! (from ! (stop !)) (look ! 12 refl)) (and-then ! (load ! (from ! (fld ! refl (stop !))) (look-in ! 24 (sub ! 1 refl (whole !)))) (no-more !)))) (from ! (stop !)) (init ! 10 refl (tt, (tt, (record { fits = r₁ .0 }, tt)))) $
+        assigns ! (addr ! (from ! (fld ! refl (hop ! (look-in ! 22 (sub ! 0 refl (whole !))) (stop !))))) (from ! (stop !)) (init ! 8 refl (tt, tt)) $
+        assigns ! (agg ! (and-then ! (load ! (from ! (stop !)) (look ! 8 refl)) (and-then ! (load ! (from ! (fld ! refl (stop !))) (look-in ! 22 (sub ! 1 refl (whole !)))) (no-more !)))) (from ! (stop !)) (init ! 6 refl (tt, (tt, (record { fits = r₂ .0 }, tt)))) $
         -- both borrows are lent again, each for a lifetime of its own
         lft-new ! tt (λ α. lft-new ! tt (λ β. move ! (2 ∷ 3 ∷ []) $
         use2 W (later (some (λ (δ : GName). ‵ (MutSlice (named 1) (α ∷ []) R .own (x₁ δ s) (sliceVal (b, o) (length (s .tb)) ∷ [])) ⊛ ‵ (LentAgain R κ₁ (α ∷ []) q₁ γ b o δ (s .tb))))) (lends-again R κ₁ (α ∷ []) q₁ γ b o 𝓤 H A W (named 1) (named 1) (s .tb)) $ await ! tt $ pick ! (λ δ. split ! $
@@ -165,10 +178,10 @@ module _ {M : Type 1} (𝓤 : URA M) (H : Heap 𝓤) (A : Atoms 𝓤) (W : Given
         use2 W (later (some (λ (ε : GName). ‵ (MutSlice (named 2) (β ∷ []) u32 .own (y₂ ε s) (sliceVal (c, u) (length (s .out)) ∷ [])) ⊛ ‵ (LentAgain u32 κ₂ (β ∷ []) q₂ η c u ε (s .out))))) (lends-again u32 κ₂ (β ∷ []) q₂ η c u 𝓤 H A W (named 2) (named 2) (s .out)) $ await ! tt $ pick ! (λ ε. split ! $
         -- the call of `one`
         move ! (6 ∷ []) $ use1 W (‵ Own₀ ⊛ ‵ Own₀) (shr-slice-copy 𝓤 H A W (named 0) κ₀ u32 .twice w (slice-vals w)) $ split ! $ move ! (8 ∷ 7 ∷ 6 ∷ 1 ∷ 4 ∷ 2 ∷ []) $
-        -- [t0; ta; tb; words2; tab; out; words; lent2; lent1; L11; D11; L10; D10; L9; D9; L8; D8; L7; D7; L6; D6; L5; D5; L4; D4; L3; D3; L2; D2; L1; D1; L0; D0]
-        use6 𝓤 H A W (raw (One 𝓤 H A W at-mem run .pre (to α β δ ε s))) (one-pre 𝓤 H A W at-mem run κ₀ (α ∷ []) (β ∷ []) q₀ fullShare fullShare w end (x₁ δ s) (y₂ ε s) (s .p) end-fits is-p) $
-        calls-at-last ! fm (One 𝓤 H A W at-mem run) known-one (to α β δ ε s) (and-then ! (load ! (from ! (stop !)) (look ! 24 refl)) (and-then ! (load ! (from ! (stop !)) (look ! 22 refl)) (and-then ! (load ! (from ! (stop !)) (look ! 16 refl)) (and-then ! (load ! (from ! (stop !)) (look ! 8 refl)) (and-then ! (load ! (from ! (stop !)) (look ! 4 refl)) (no-more !)))))) (λ v.
-        use1 W (later (given (((v ≡ valP (s′ .p)) × Is P (s′ .p) (valsP (s′ .p))) × ((length (s′ .tb) ≡ length (s .tb)) × (length (s′ .out) ≡ length (s .out)))) ((‵ (flft κ₀ q₀) ⊛ ‵ (flft (α ∷ []) fullShare) ⊛ ‵ (flft (β ∷ []) fullShare) ⊛ ‵ ftrue) ⊛ ‵ (fsep (finally R δ (s′ .tb)) (finally u32 ε (s′ .out)))))) (one-post 𝓤 H A W at-mem run κ₀ (α ∷ []) (β ∷ []) q₀ fullShare fullShare w end (x₁ δ s) (y₂ ε s) (s .p) v) $ await ! tt $ learn ! (λ f.
+        -- [t0; ta; tb; words2; tab; out; words; lent2; lent1; L12; D12; L11; D11; L10; D10; L9; D9; L8; D8; L7; D7; L6; D6; L5; D5; L4; D4; L3; D3; L2; D2; L1; D1; L0; D0]
+        use6 𝓤 H A W (raw (One 𝓤 H A W at-mem run .pre (to α β δ ε s))) (one-pre 𝓤 H A W at-mem run κ₀ (α ∷ []) (β ∷ []) q₀ fullShare fullShare w j (x₁ δ s) (y₂ ε s) (s .p) is-j is-p (going (w .now) j tb out t e .0)) $
+        calls-at-last ! fm (One 𝓤 H A W at-mem run) known-one (to α β δ ε s) (and-then ! (load ! (from ! (stop !)) (look ! 26 refl)) (and-then ! (load ! (from ! (stop !)) (look ! 24 refl)) (and-then ! (load ! (from ! (stop !)) (look ! 18 refl)) (and-then ! (load ! (from ! (stop !)) (look ! 8 refl)) (and-then ! (load ! (from ! (stop !)) (look ! 4 refl)) (no-more !)))))) (λ v.
+        use1 W (later (given (((v ≡ valP (s′ .p)) × Is P (s′ .p) (valsP (s′ .p))) × ((length (s′ .tb) ≡ length (s .tb)) × (length (s′ .out) ≡ length (s .out)))) ((‵ (flft κ₀ q₀) ⊛ ‵ (flft (α ∷ []) fullShare) ⊛ ‵ (flft (β ∷ []) fullShare) ⊛ ‵ ftrue) ⊛ ‵ (fsep (finally R δ (s′ .tb)) (finally u32 ε (s′ .out)))))) (one-post 𝓤 H A W at-mem run κ₀ (α ∷ []) (β ∷ []) q₀ fullShare fullShare w j (x₁ δ s) (y₂ ε s) (s .p) v) $ await ! tt $ learn ! (λ f.
         split ! $ split ! $ move ! (1 ∷ []) $ split ! $ move ! (1 ∷ []) $ split ! $ move ! (4 ∷ []) $ fsplit ! $
         -- the lifetimes end, and both come back
         move ! (4 ∷ []) $ lft-end ! tt $ move ! (0 ∷ 8 ∷ 1 ∷ []) $
@@ -176,54 +189,55 @@ module _ {M : Type 1} (𝓤 : URA M) (H : Heap 𝓤) (A : Atoms 𝓤) (W : Given
         lft-end ! tt $ move ! (0 ∷ 7 ∷ 3 ∷ []) $
         use3 W (later (‵ (MutSlice (named 2) κ₂ u32 .own (y₂ η s′) (sliceVal (c, u) (length (s .out)) ∷ [])) ⊛ ‵ (flft κ₂ q₂))) (comes-back u32 κ₂ (β ∷ []) q₂ η c u 𝓤 H A W (named 2) (named 2) (s .out) ε (s′ .out) r₂ (f .1 .1)) $ await ! tt $ split ! $
         rewrite ! 2 (λ (m : ℕ). ‵ (MutSlice (named 1) κ₁ R .own (x₁ γ s′) (sliceVal (b, o) m ∷ []))) (sym (f .1 .0)) refl $ rewrite ! 0 (λ (m : ℕ). ‵ (MutSlice (named 2) κ₂ u32 .own (y₂ η s′) (sliceVal (c, u) m ∷ []))) (sym (f .1 .1)) refl $
-        rewrite ! 23 (λ (m : ℕ). ‵ (fat fullShare (tyTable (named 1)) l3 0 (sliceVal (b, o) m))) (sym (f .1 .0)) refl $ rewrite ! 21 (λ (m : ℕ). ‵ (fat fullShare (tyOut (named 2)) l4 0 (sliceVal (c, u) m))) (sym (f .1 .1)) refl $
-        land-last ! (from ! (stop !)) (store ! 19 refl (subst (λ (z : Val). Holds (hasTy TP′.mir z) × WT z) (sym (f .0 .0)) (typedP 𝓤 H A W (s′ .p) (f .0 .1)))) $ rewrite ! 19 (λ (z : Val). ‵ (fat fullShare TP′.mir l5 0 z)) (f .0 .0) refl $ forget ! 15 refl $
-        forget ! 13 refl $ forget ! 11 refl $ forget ! 9 refl $ forget ! 7 refl $ keep ! (2 ∷ 3 ∷ 0 ∷ 1 ∷ 6 ∷ 5 ∷ 7 ∷ 8 ∷ 9 ∷ 10 ∷ 11 ∷ 12 ∷ 13 ∷ 14 ∷ 15 ∷ 16 ∷ 17 ∷ 18 ∷ 19 ∷ 20 ∷ 21 ∷ 22 ∷ 23 ∷ 24 ∷ 25 ∷ 26 ∷ 27 ∷ 28 ∷ 29 ∷ 30 ∷ []) $
-        again ! (Fewer (w .now) end tb out) I t (next (w .now) end tb out t e (f .0 .1) (f .1 .0) (f .1 .1)) (fewer (w .now) end tb out t e)))))))
+        rewrite ! 25 (λ (m : ℕ). ‵ (fat fullShare (tyTable (named 1)) l3 0 (sliceVal (b, o) m))) (sym (f .1 .0)) refl $ rewrite ! 23 (λ (m : ℕ). ‵ (fat fullShare (tyOut (named 2)) l4 0 (sliceVal (c, u) m))) (sym (f .1 .1)) refl $
+        land-last ! (from ! (stop !)) (store ! 21 refl (subst (λ (z : Val). Holds (hasTy TP′.mir z) × WT z) (sym (f .0 .0)) (typedP 𝓤 H A W (s′ .p) (f .0 .1)))) $ rewrite ! 21 (λ (z : Val). ‵ (fat fullShare TP′.mir l5 0 z)) (f .0 .0) refl $ forget ! 15 refl $
+        forget ! 13 refl $ forget ! 11 refl $ forget ! 9 refl $ forget ! 7 refl $ keep ! (2 ∷ 3 ∷ 0 ∷ 1 ∷ 6 ∷ 5 ∷ 7 ∷ 8 ∷ 9 ∷ 10 ∷ 11 ∷ 12 ∷ 13 ∷ 14 ∷ 15 ∷ 16 ∷ 17 ∷ 18 ∷ 19 ∷ 20 ∷ 21 ∷ 22 ∷ 23 ∷ 24 ∷ 25 ∷ 26 ∷ 27 ∷ 28 ∷ 29 ∷ 30 ∷ 31 ∷ 32 ∷ []) $
+        again ! (Fewer (w .now) j tb out) I t (next-turn (w .now) j tb out t e (f .0 .1) (f .1 .0) (f .1 .1)) (fewer (w .now) j tb out t e (f .0 .1) (f .1 .0) (f .1 .1))))))))
 
-    last : (t : Turn (w .now) end tb out) → t .st .p .more ≡ false → Sq W (I t) (runs C Λ E body.turn-1 (anyQ (Turned t)))
+    last : (t : Turn (w .now) j tb out) → t .st .p .more ≡ false → Sq W (I t) (runs C Λ E body.turn-1 (anyQ (Turned t)))
     unfolding afterTurn
     last t e =
-        assigns ! (of-opd ! (load ! (from ! (fld ! refl (stop !))) (look-in ! 18 (sub ! 3 refl (whole !))))) (from ! (stop !)) (init ! 14 refl (tt, tt)) $ rewrite ! 14 (λ (z : Bool). ‵ (fat fullShare tyBool l7 0 (vbool z))) e refl $
-        leaves-loop ! (load ! (from ! (stop !)) (look ! 14 refl)) $ exec ! C Λ E body.t-4 (atRet E Post) $ forget ! 14 refl $ leaves (t .st) (t .good) (t .tb-long) (t .out-long) (said t e)
+        assigns ! (of-opd ! (load ! (from ! (fld ! refl (stop !))) (look-in ! 20 (sub ! 1 refl (whole !))))) (from ! (stop !)) (init ! 14 refl (tt, tt)) $ rewrite ! 14 (λ (z : Bool). ‵ (fat fullShare tyBool l8 0 (vbool z))) e refl $
+        leaves-loop ! (load ! (from ! (stop !)) (look ! 14 refl)) $ exec ! C Λ E body.t-5 (atRet E Post) $ forget ! 14 refl $ leaves (t .st) (t .good) (t .tb-long) (t .out-long) (said t e)
 
-    turning : (t : Turn (w .now) end tb out) → Sq W (I t) (runs C Λ E body.turn-1 (anyQ (Turned t)))
+    turning : (t : Turn (w .now) j tb out) → Sq W (I t) (runs C Λ E body.turn-1 (anyQ (Turned t)))
     turning t = by-bool (t .st .p .more) (more t) (last t)
 
     -- the loop, from the first state
-    looped : Is P p₀ (valsP p₀) → Sq W (At (begun (w .now) end tb out)) (runs C Λ E body.t-3 (atRet E Post))
-    looped g = first ! $ blocks ! $ loops ! 𝓣 (Fewer (w .now) end tb out) (Fewer-wf (w .now) end tb out) I turning (first-turn (w .now) end tb out g)
+    looped : Is P p₀ (valsP p₀) → Sq W (At (begun-at (w .now) j tb out)) (runs C Λ E body.t-4 (atRet E Post))
+    looped g = first ! $ blocks ! $ loops ! 𝓣 (Fewer (w .now) j tb out) (Fewer-wf (w .now) j tb out) I turning (first-turn (w .now) j tb out g)
 
   module _ (𝓣 : Tables 𝓤 H) (known-one : Triple 𝓤 (𝓣 .C #table·one) (One 𝓤 H A W at-mem run)) (known-start : Triple 𝓤 (𝓣 .C #table·start) (Start 𝓤 H A W at-mem run)) where
-    walk : ent 𝓤 (onEntry 𝓤 H A go.signature (κ₀, (κ₁, (κ₂, tt))) (q₀, (q₁, (q₂, tt))) a at) (WpFn 𝓤 H (𝓣 .C) (𝓣 .Λ) code.function (sliceVal (w .ptr) (length (w .now)) ∷ vint w64 end ∷ sliceVal (b, o) (length tb) ∷ sliceVal (c, u) (length out) ∷ []) Post)
+    walk : ent 𝓤 (onEntry 𝓤 H A go.signature (κ₀, (κ₁, (κ₂, tt))) (q₀, (q₁, (q₂, tt))) a at) (WpFn 𝓤 H (𝓣 .C) (𝓣 .Λ) code.function (sliceVal (w .ptr) (length (w .now)) ∷ valJ j ∷ sliceVal (b, o) (length tb) ∷ sliceVal (c, u) (length out) ∷ []) Post)
     walk =
         let fm : FmC 𝓤 H (W .laws) (𝓣 .C) = fmOf 𝓤 H (W .laws) 𝓣 in
-        qed W ((‵ (flft κ₀ q₀) ⊛ ‵ (flft κ₁ q₁) ⊛ ‵ (flft κ₂ q₂) ⊛ ‵ ftrue) ∷ ‵ (owns (ShrSlice (named 0) κ₀ u32 ∷ usize ∷ MutSlice (named 1) κ₁ R ∷ MutSlice (named 2) κ₂ u32 ∷ []) a at) ∷ []) ∵
-        enter ! (𝓣 .C) (𝓣 .Λ) code.function (sliceVal (w .ptr) (length (w .now)) ∷ vint w64 end ∷ sliceVal (b, o) (length tb) ∷ sliceVal (c, u) (length out) ∷ []) _ $
-        alloc1 ! (λ l0. alloc1 ! (λ l1. alloc1 ! (λ l2. alloc1 ! (λ l3. alloc1 ! (λ l4. alloc1 ! (λ l5. alloc1 ! (λ l6. alloc1 ! (λ l7. alloc1 ! (λ l8. alloc1 ! (λ l9. alloc1 ! (λ l10. alloc1 ! (λ l11. alloc0 ! $ params1 ! $
-        pass1 ! (init ! 20 refl (tt, (tt, (record { fits = room₀ .0 }, tt)))) $ pass1 ! (init ! 18 refl (tt, record { fits = end-fits })) $ pass1 ! (init ! 16 refl (tt, (tt, (record { fits = room₁ .0 }, tt)))) $ pass1 ! (init ! 14 refl (tt, (tt, (record { fits = room₂ .0 }, tt)))) $ pass0 ! $
-        assigns ! (of-opd ! (load ! (from ! (fld ! refl (stop !))) (look-in ! 16 (sub ! 1 refl (whole !))))) (from ! (stop !)) (init ! 10 refl (tt, record { fits = room₁ .0 })) $ move ! (25 ∷ []) $ fsplit ! $ move ! (1 ∷ []) $ fsplit ! $ move ! (1 ∷ []) $ fsplit ! $
-        move ! (1 ∷ []) $ fsplit ! $ move ! (29 ∷ []) $ split ! $ move ! (1 ∷ []) $ split ! $ move ! (1 ∷ []) $ split ! $
-        use0 W (raw (Start 𝓤 H A W at-mem run .pre (to-start 𝓤 H A W at-mem run (length tb) end))) (start-pre 𝓤 H A W at-mem run (length tb) end (room₁ .0) end-fits) $
-        calls-at ! fm (Start 𝓤 H A W at-mem run) known-start (to-start 𝓤 H A W at-mem run (length tb) end) (and-then ! (load ! (from ! (stop !)) (look ! 20 refl)) (and-then ! (load ! (from ! (stop !)) (look ! 28 refl)) (no-more !))) (λ v.
-        use1 W (later (given ((v ≡ valP p₀) × Is P p₀ (valsP p₀)) (‵ ftrue))) (start-post 𝓤 H A W at-mem run (length tb) end v) $ await ! tt $ learn ! (λ e. drop ! $
-        land ! (from ! (stop !)) (init ! 21 refl (subst (λ (z : Val). Holds (hasTy TP′.mir z) × WT z) (sym (e .0)) (typedP 𝓤 H A W p₀ (e .1)))) $ rewrite ! 21 (λ (z : Val). ‵ (fat fullShare TP′.mir l5 0 z)) (e .0) refl $ forget ! 19 refl $
-        keep ! (6 ∷ 2 ∷ 4 ∷ 0 ∷ 8 ∷ 3 ∷ 9 ∷ 10 ∷ 11 ∷ 12 ∷ 13 ∷ 14 ∷ 15 ∷ 16 ∷ 17 ∷ 18 ∷ 19 ∷ 20 ∷ 21 ∷ 22 ∷ 23 ∷ 24 ∷ 25 ∷ 26 ∷ 27 ∷ 28 ∷ 29 ∷ 30 ∷ 31 ∷ 32 ∷ []) $ looped 𝓣 known-one l0 l1 l2 l3 l4 l5 l6 l7 l8 l9 l10 l11 (e .1)))))))))))))))
+        qed W ((‵ (flft κ₀ q₀) ⊛ ‵ (flft κ₁ q₁) ⊛ ‵ (flft κ₂ q₂) ⊛ ‵ ftrue) ∷ ‵ (owns (ShrSlice (named 0) κ₀ u32 ∷ J ∷ MutSlice (named 1) κ₁ R ∷ MutSlice (named 2) κ₂ u32 ∷ []) a at) ∷ []) ∵
+        enter ! (𝓣 .C) (𝓣 .Λ) code.function (sliceVal (w .ptr) (length (w .now)) ∷ valJ j ∷ sliceVal (b, o) (length tb) ∷ sliceVal (c, u) (length out) ∷ []) _ $
+        alloc1 ! (λ l0. alloc1 ! (λ l1. alloc1 ! (λ l2. alloc1 ! (λ l3. alloc1 ! (λ l4. alloc1 ! (λ l5. alloc1 ! (λ l6. alloc1 ! (λ l7. alloc1 ! (λ l8. alloc1 ! (λ l9. alloc1 ! (λ l10. alloc1 ! (λ l11. alloc1 ! (λ l12. alloc0 ! $ params1 ! $
+        pass1 ! (init ! 22 refl (tt, (tt, (record { fits = room₀ .0 }, tt)))) $ pass1 ! (init ! 20 refl (typedJ 𝓤 H A W j is-j)) $ pass1 ! (init ! 18 refl (tt, (tt, (record { fits = room₁ .0 }, tt)))) $ pass1 ! (init ! 16 refl (tt, (tt, (record { fits = room₂ .0 }, tt)))) $ pass0 ! $
+        assigns ! (of-opd ! (load ! (from ! (fld ! refl (stop !))) (look-in ! 18 (sub ! 1 refl (whole !))))) (from ! (stop !)) (init ! 12 refl (tt, record { fits = room₁ .0 })) $
+        assigns ! (of-opd ! (load ! (from ! (fld ! refl (stop !))) (look-in ! 22 (sub ! 1 refl (whole !))))) (from ! (stop !)) (init ! 10 refl (tt, record { fits = room₀ .0 })) $ move ! (27 ∷ []) $ fsplit ! $ move ! (1 ∷ []) $ fsplit ! $ move ! (1 ∷ []) $ fsplit ! $
+        move ! (1 ∷ []) $ fsplit ! $ move ! (31 ∷ []) $ split ! $ move ! (1 ∷ []) $ split ! $ move ! (1 ∷ []) $ split ! $
+        use0 W (raw (Start 𝓤 H A W at-mem run .pre (to-start 𝓤 H A W at-mem run (length tb) (length (w .now)) j))) (start-pre 𝓤 H A W at-mem run (length tb) (length (w .now)) j (room₁ .0) (room₀ .0) is-j) $
+        calls-at ! fm (Start 𝓤 H A W at-mem run) known-start (to-start 𝓤 H A W at-mem run (length tb) (length (w .now)) j) (and-then ! (load ! (from ! (stop !)) (look ! 22 refl)) (and-then ! (load ! (from ! (stop !)) (look ! 20 refl)) (and-then ! (load ! (from ! (stop !)) (look ! 30 refl)) (no-more !)))) (λ v.
+        use1 W (later (given ((v ≡ valP p₀) × Is P p₀ (valsP p₀)) (‵ ftrue))) (start-post 𝓤 H A W at-mem run (length tb) (length (w .now)) j v) $ await ! tt $ learn ! (λ e. drop ! $
+        land ! (from ! (stop !)) (init ! 23 refl (subst (λ (z : Val). Holds (hasTy TP′.mir z) × WT z) (sym (e .0)) (typedP 𝓤 H A W p₀ (e .1)))) $ rewrite ! 23 (λ (z : Val). ‵ (fat fullShare TP′.mir l5 0 z)) (e .0) refl $ forget ! 21 refl $ forget ! 19 refl $
+        keep ! (6 ∷ 2 ∷ 4 ∷ 0 ∷ 8 ∷ 3 ∷ 9 ∷ 10 ∷ 11 ∷ 12 ∷ 13 ∷ 14 ∷ 15 ∷ 16 ∷ 17 ∷ 18 ∷ 19 ∷ 20 ∷ 21 ∷ 22 ∷ 23 ∷ 24 ∷ 25 ∷ 26 ∷ 27 ∷ 28 ∷ 29 ∷ 30 ∷ 31 ∷ 32 ∷ 33 ∷ 34 ∷ []) $ looped 𝓣 known-one l0 l1 l2 l3 l4 l5 l6 l7 l8 l9 l10 l11 l12 (e .1))))))))))))))))
 
 module _ {M : Type 1} (𝓤 : URA M) (H : Heap 𝓤) (A : Atoms 𝓤) (W : Given 𝓤 H A) (at-mem : Memory → SProp 𝓤) (run : Routine → Fun 𝓤) where
   treat-walks : (𝓣 : Tables 𝓤 H) → Triple 𝓤 (𝓣 .C #table·one) (One 𝓤 H A W at-mem run) → Triple 𝓤 (𝓣 .C #table·start) (Start 𝓤 H A W at-mem run)
       → Walks 𝓤 H A go.ended stayed (WpFn 𝓤 H (𝓣 .C) (𝓣 .Λ) code.function) (go.clauses 𝓤 H A at-mem run)
   treat-walks 𝓣 k₁ k₂ = walked 𝓤 H A go.ended stayed (go.clauses 𝓤 H A at-mem run) (WpFn 𝓤 H (𝓣 .C) (𝓣 .Λ) code.function)
-      (λ κs. (slice-vals, (uint-vals w64, (slice-vals, (slice-vals, tt))))) (λ κs. (shr-slice-tells (named 0) (κs .0) u32, (uint-tells w64, (mut-slice-tells (named 1) (κs .1 .0) R, (mut-slice-tells (named 2) (κs .1 .1 .0) u32, tt)))))
-      (λ κs qs bounds a g are. via 𝓤 _ (fst∗ 𝓤 _ (emp 𝓤))
-      (walk 𝓤 H A W at-mem run (κs .0) (κs .1 .0) (κs .1 .1 .0) (qs .0) (qs .1 .0) (qs .1 .1 .0) (a .0) (a .1 .0) (a .1 .1 .0 .ptr .0) (a .1 .1 .0 .ptr .1) (a .1 .1 .0 .name) (a .1 .1 .0 .now) (a .1 .1 .1 .0 .ptr .0) (a .1 .1 .1 .0 .ptr .1) (a .1 .1 .1 .0 .name) (a .1 .1 .1 .0 .now)
-      (are .0 .0 .1) (are .1 .0 .1) (are .1 .1 .0 .0 .1) (are .1 .1 .1 .0 .0 .1) 𝓣 k₁ k₂))
+      (λ κs. (slice-vals, (valsJ, (slice-vals, (slice-vals, tt))))) (λ κs. (shr-slice-tells (named 0) (κs .0) u32, (tellsJ, (mut-slice-tells (named 1) (κs .1 .0) R, (mut-slice-tells (named 2) (κs .1 .1 .0) u32, tt)))))
+      (λ κs qs bounds a g are. via 𝓤 _ (fst∗ 𝓤 _ (emp 𝓤)) (
+      walk 𝓤 H A W at-mem run (κs .0) (κs .1 .0) (κs .1 .1 .0) (qs .0) (qs .1 .0) (qs .1 .1 .0) (a .0) (a .1 .0) (a .1 .1 .0 .ptr .0) (a .1 .1 .0 .ptr .1) (a .1 .1 .0 .name) (a .1 .1 .0 .now) (a .1 .1 .1 .0 .ptr .0) (a .1 .1 .1 .0 .ptr .1) (a .1 .1 .1 .0 .name) (a .1 .1 .1 .0 .now)
+      (are .0 .0 .1) (are .1 .0) (are .1 .1 .0 .0 .1) (are .1 .1 .1 .0 .0 .1) 𝓣 k₁ k₂))
 
 treat-meets : {M : Type 1} (𝓤 : URA M) (H : Heap 𝓤) (A : Atoms 𝓤) (W : Given 𝓤 H A) (mem : Memory → SProp 𝓤) (run : Routine → Fun 𝓤) (𝓣 : Tables 𝓤 H) → Triple 𝓤 (𝓣 .C #table·one) (One 𝓤 H A W mem run) → Triple 𝓤 (𝓣 .C #table·start) (Start 𝓤 H A W mem run)
     → Meets 𝓤 H A go.signature (WpFn 𝓤 H (𝓣 .C) (𝓣 .Λ) code.function) (go.spec 𝓤 H A mem run)
 treat-meets 𝓤 H A W mem run 𝓣 k₁ k₂ =
     walk-meets 𝓤 H A go.ended stayed W
-    (goes-none-slice 𝓤 H A W 3 (0 ∷ []) tt (plain (λ _. u32)) yes, (goes-none 𝓤 H A W 3 (λ _. usize) yes (λ κs x f. refl), (goes-slice 𝓤 H A W 3 1 tt (plain (λ _. R)), (goes-slice 𝓤 H A W 3 2 tt (plain (λ _. u32)), tt)))) (go.clauses 𝓤 H A mem run)
+    (goes-none-slice 𝓤 H A W 3 (0 ∷ []) tt (plain (λ _. u32)) yes, (goes-none 𝓤 H A W 3 (λ _. J) yes (λ κs x f. refl), (goes-slice 𝓤 H A W 3 1 tt (plain (λ _. R)), (goes-slice 𝓤 H A W 3 2 tt (plain (λ _. u32)), tt)))) (go.clauses 𝓤 H A mem run)
     (WpFn 𝓤 H (𝓣 .C) (𝓣 .Λ) code.function) (WpFn-mono 𝓤 H (W .laws) 𝓣 code.function) (treat-walks 𝓤 H A W mem run 𝓣 k₁ k₂)
 
 pub treat-spec : {M : Type 1} → stated.statement M
