@@ -8,10 +8,16 @@ use stream::Done;
 use table::treat;
 ghost use mathlib.Core.Path.{_≡_};
 ghost use lib.ListN.{length};
+ghost use Rattle.ground.specs.Store.{atStart};
+ghost use Rattle.stream.specs.Report.{reported};
+ghost use Rattle.channel.specs.Record.{empty};
+ghost use Rattle.voice.specs.Packet.{oneDown, runDown};
+ghost use Rattle.table.specs.Table.{oneUp, runUp, tableAfter};
 
 // An empty record.
 #[no_mangle]
 pub extern "C" fn quernbrae_empty() -> Record
+    ensures { λ r. ⌜ r ≡ empty ⌝ }
 {
     Record::empty()
 }
@@ -19,6 +25,11 @@ pub extern "C" fn quernbrae_empty() -> Record
 // One call up: the packet at the start of the words.
 #[no_mangle]
 pub extern "C" fn quernbrae_up(words: &[u32], table: &mut [Record], out: &mut [u32]) -> Done
+    ensures report { λ r. ⌜ r ≡ reported (oneUp (length (now (out .entry))) (now (table .entry)) (now (words .entry))) ⌝ }
+    ensures table { λ _. ⌜ now (table .exit)
+        ≡ tableAfter (oneUp (length (now (out .entry))) (now (table .entry)) (now (words .entry))) ⌝ }
+    ensures output { λ _. ⌜ now (out .exit)
+        ≡ atStart (oneUp (length (now (out .entry))) (now (table .entry)) (now (words .entry)) .sends) (now (out .entry)) ⌝ }
 {
     treat(words, table::one_call(), table, out)
 }
@@ -26,6 +37,11 @@ pub extern "C" fn quernbrae_up(words: &[u32], table: &mut [Record], out: &mut [u
 // A run up: every packet of the words, until one stops it.
 #[no_mangle]
 pub extern "C" fn quernbrae_run_up(words: &[u32], table: &mut [Record], out: &mut [u32]) -> Done
+    ensures report { λ r. ⌜ r ≡ reported (runUp (length (now (out .entry))) (now (table .entry)) (now (words .entry))) ⌝ }
+    ensures table { λ _. ⌜ now (table .exit)
+        ≡ tableAfter (runUp (length (now (out .entry))) (now (table .entry)) (now (words .entry))) ⌝ }
+    ensures output { λ _. ⌜ now (out .exit)
+        ≡ atStart (runUp (length (now (out .entry))) (now (table .entry)) (now (words .entry)) .sends) (now (out .entry)) ⌝ }
 {
     treat(words, table::whole_run(), table, out)
 }
@@ -33,6 +49,9 @@ pub extern "C" fn quernbrae_run_up(words: &[u32], table: &mut [Record], out: &mu
 // One call down: the packet at the start of the words.
 #[no_mangle]
 pub extern "C" fn quernbrae_down(words: &[u32], out: &mut [u32]) -> Done
+    ensures report { λ r. ⌜ r ≡ reported (oneDown (length (now (out .entry))) (now (words .entry))) ⌝ }
+    ensures output { λ _. ⌜ now (out .exit)
+        ≡ atStart (oneDown (length (now (out .entry))) (now (words .entry)) .sends) (now (out .entry)) ⌝ }
 {
     voice::down(words, stream::report(stream::SENT, 0, 0), out)
 }
@@ -40,6 +59,9 @@ pub extern "C" fn quernbrae_down(words: &[u32], out: &mut [u32]) -> Done
 // A run down: every packet of the words, until one stops it.
 #[no_mangle]
 pub extern "C" fn quernbrae_run_down(words: &[u32], out: &mut [u32]) -> Done
+    ensures report { λ r. ⌜ r ≡ reported (runDown (length (now (out .entry))) (now (words .entry))) ⌝ }
+    ensures output { λ _. ⌜ now (out .exit)
+        ≡ atStart (runDown (length (now (out .entry))) (now (words .entry)) .sends) (now (out .entry)) ⌝ }
 {
     voice::run_down(words, out)
 }

@@ -10,7 +10,7 @@ use Rattle.ump.specs.Word.{channelOf, groupOf, messageType, voice1, voice2}
 use Rattle.ump.specs.Packet.{cut, first, packet, second}
 use Rattle.stream.specs.Answers.{noForm, notSound, sent, takenIn}
 use Rattle.stream.specs.Call.{Call, stopped, went, within}
-use Rattle.stream.specs.Run.{Ran, run}
+use Rattle.stream.specs.Run.{Ran, called, run}
 use Rattle.screen.specs.Screen.{screen, screened}
 use Rattle.channel.specs.declared.Record.{Record}
 use Rattle.channel.specs.Record.{sound}
@@ -71,6 +71,9 @@ callUp r s = packetUp r (packet s)
 unfoldable pub callDown : Unit {0} → List ℕ → Call (Unit {0})
 callDown t s = packetDown (packet s)
 
--- a run down, in an output of so many words
+-- one call down, told as a run is, and a run down, in an output of so many words
+unfoldable pub oneDown : ℕ → List ℕ → Ran (ℕ × Unit {0})
+oneDown room s = called (packet s) (room, tt) (within callDown (room, tt) s)
+
 unfoldable pub runDown : ℕ → List ℕ → Ran (ℕ × Unit {0})
 runDown room s = run (within callDown) (room, tt) (cut s)

@@ -1,22 +1,17 @@
--- `quernbrae_down` meets its contract: it is the call at the start of the words and of the output. Assumes nothing.
+-- `quernbrae_down` meets its contract: it is the call down of `voice`, with nothing read or written before. Assumes nothing.
 use mathlib.Core.Path.{_∙_}
-use native.Mathlib.Nat.{sub-zero}
-use borrow.Author.Needs.{needs}
 use denote.Ref.{now}
-use lib.ListN.{length}
-use Rattle.ump.specs.Packet.{packet}
-use Rattle.voice.specs.Call.{fit, sentOf, within}
-use Rattle.voice.specs.Packet.{callDown, packetDown}
-use Rattle.quernbrae.proofs.LoopLaws.{start-written}
+use Rattle.quernbrae.proofs.Said.{down-said}
+use borrow.Author.Needs.{needs}
 use Rattle.quernbrae.proofs.quernbrae_down.Statement.{statement}
 use Rattle.quernbrae.proofs.quernbrae_down.Tie as tie
 
 returns : tie.Need-returns
-unfolding within callDown
 returns c =
-    let a = c .before .before .before .before .before .before .args in
-    let e = rw (sub-zero (length (now (a .out)))) at (c .before .before .down .ensures) in
-    (e .0, e .1 ∙ start-written (sentOf (fit (length (now (a .out))) (packetDown (packet (now (a .words)))))) (now (a .out)))
+    let a = c .before .before .before .before .before .before .before .args in
+    let e = rw (c .before .before .before .before .report .ensures) at (c .before .before .down .ensures) in
+    let z = down-said (now (a .words)) (now (a .out)) in
+    (e .0 ∙ z .0, e .1 ∙ z .1)
 
 pub quernbrae-down-spec : {M : Type 1} → statement M
-quernbrae-down-spec = tie.close (tie.spec (λ c κs. search needs) (λ c. search needs) returns)
+quernbrae-down-spec = tie.close (tie.spec (λ c κs. search needs) (λ c κs. search needs) (λ c. search needs) returns)
