@@ -288,9 +288,10 @@ pub check-refused : (d : Done) (w : ℕ) (r : Record) (out : List ℕ) (s : Scre
 check-refused d w r out s e n =
     let f : checkVoice1 w .answer ≡ goesOn → ⊥ = λ z. n (ap (λ (x : Screened). x .answer) e ∙ z) in
     let no-packet : stopsRun (checkVoice1 w .answer) ≡ true → (w ∷ []) ≡ [] = λ k. not-both (sym (check-goes-on w) ∙ k) in
-    rw (e, refuses (checkVoice1 w) r (speakUp r w) f)
-    (refused-turn d (w ∷ []) out r (changes (read1 w)) (checkVoice1 w .answer) no-packet (check-above w f),
-    refused-output d (w ∷ []) out r (checkVoice1 w .answer) no-packet)
+    rw (e, refuses (checkVoice1 w) r (speakUp r w) f) (
+      refused-turn d (w ∷ []) out r (changes (read1 w)) (checkVoice1 w .answer) no-packet (check-above w f),
+      refused-output d (w ∷ []) out r (checkVoice1 w .answer) no-packet,
+    )
 
 -- and the packet that is one
 pub voice-turn : (d : Done) (ws out : List ℕ) (r : Record) (x : RecordAndReport) (o : List ℕ) → messageType (getD ws (d .read) 0) ≡ voice1
