@@ -1,5 +1,5 @@
--- The channel record (RULES 5; 01 "The channel record"): soundness, the empty record, and what each control change makes of
--- a record.
+-- The channel record (RULES 5; 01 "The channel record"): soundness, the empty record, and what each control change
+-- makes of a record.
 use Prim.Native.Nat.{ℕ, _≤_}
 use mathlib.Core.Bool.{Bool, true, cond, not, _&&_, _||_}
 use mathlib.Core.Path.{_≡_}
@@ -59,8 +59,8 @@ dataHighPresent r = present (r .«data_high»)
 abbrev pub number : ℕ → Bool
 number n = leb n 127 || eqb n missing
 
--- A sound record (RULES 5.2): each number is one; the kind is one of the three; without a kind there is neither address nor
--- data high; and data high stands only beside a complete address that is not null.
+-- A sound record (RULES 5.2): each number is one; the kind is one of the three; without a kind there is neither address
+-- nor data high; and data high stands only beside a complete address that is not null.
 unfoldable pub sound : Record → Bool
 sound r =
     (number (r .«bank_high») && number (r .«bank_low»))

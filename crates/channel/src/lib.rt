@@ -5,7 +5,10 @@
 // number is 0 to 127 or `MISSING`; a record with any other is not sound. The methods take the
 // record by value and return the new one.
 ghost use mathlib.Core.Path.{_≡_};
-ghost use Rattle.channel.specs.Record.{StaysSound, addressed, assignable, banked, complete, dataHighPresent, empty, fresh, kept, null, number, registered, sound, withAddressBank, withAddressIndex, withBankHigh, withBankLow, withBankSpent, withDataHigh};
+ghost use Rattle.channel.specs.Record.{StaysSound, addressed, assignable, banked, complete, dataHighPresent};
+ghost use Rattle.channel.specs.Record.{empty, fresh, kept, null, number, registered, sound, withAddressBank};
+ghost use Rattle.channel.specs.Record.{withAddressIndex, withBankHigh, withBankLow, withBankSpent};
+ghost use Rattle.channel.specs.Record.{withDataHigh};
 
 // How many records a table has: one for each channel of each group.
 pub const RECORDS: usize = 256;

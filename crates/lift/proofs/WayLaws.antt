@@ -1,11 +1,11 @@
 -- Two ways of `lifted`: a note by one row is the note of its status, and the halves of a bend are a value of fourteen bits.
 -- Assumes nothing.
 use Prim.Native.Nat.{ℕ, _+_, _*_, _%_, _^_}
-use mathlib.Core.Path.{_≡_, refl, sym, _∙_}
-use mathlib.Core.Bool.{Bool, true, false, _||_}
+use mathlib.Core.Path.{_≡_}
+use mathlib.Core.Bool.{true, _||_}
 use native.Mathlib.Omega.{arith}
 use lib.Dec.{eqb}
-use borrow.Author.Tests.{eqb-true, ne-eqb}
+use borrow.Author.Tests.{eqb-true}
 use Rattle.ground.proofs.Cases.{by-bool}
 use Rattle.scale.specs.Scale.{up}
 use Rattle.ump.specs.Word.{data1, data2, status}

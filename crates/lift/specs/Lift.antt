@@ -10,9 +10,11 @@ use Rattle.channel.specs.Record.{assignable, dataHighPresent, present, register
 use Rattle.channel.specs.Record.{withBankHigh, withBankLow, withBankSpent, withDataHigh}
 use Rattle.lift.specs.declared.Control.{Control}
 use Rattle.lift.specs.declared.Control.the-variants.{BankHigh, BankLow, RegisteredBank, RegisteredIndex}
-use Rattle.lift.specs.declared.Control.the-variants.{AssignableBank, AssignableIndex, DataHigh, DataLow, Nothing, Plain}
+use Rattle.lift.specs.declared.Control.the-variants.{AssignableBank, AssignableIndex, DataHigh, DataLow}
+use Rattle.lift.specs.declared.Control.the-variants.{Nothing, Plain}
 use Rattle.message.specs.Message.{Bank, Midi1, Midi2, assignable2, bank, channelPressure1, channelPressure2}
-use Rattle.message.specs.Message.{controlChange1, controlChange2, noBank, noteOff1, noteOff2, noteOn1, noteOn2, pitchBend1}
+use Rattle.message.specs.Message.{controlChange1, controlChange2, noBank, noteOff1, noteOff2, noteOn1, noteOn2}
+use Rattle.message.specs.Message.{pitchBend1}
 use Rattle.message.specs.Message.{pitchBend2, polyPressure1, polyPressure2, programChange1, programChange2, registered2}
 
 -- what each control change does (RULES 6.3); all that are not named here are plain
@@ -45,8 +47,8 @@ addressed2 r v =
     cond (eqb (r .kind) registered) (registered2 (r .«address_bank») (r .«address_index») v)
     (assignable2 (r .«address_bank») (r .«address_index») v)
 
--- Control change 38 (RULES 6.4): beside data high it completes a 14-bit value, which goes to the record's address; the record
--- is not changed. Without data high it does nothing.
+-- Control change 38 (RULES 6.4): beside data high it completes a 14-bit value, which goes to the record's address; the
+-- record is not changed. Without data high it does nothing.
 unfoldable pub dataLow : Record → ℕ → Lifted
 dataLow r v =
     cond (dataHighPresent r) (speaks r (addressed2 r (up 14 32 ((r .«data_high» * 2 ^ 7 + v) % 2 ^ 14)))) (quiet r)
@@ -72,8 +74,8 @@ unfoldable pub banked2 : Record → Bank
 banked2 r =
     cond (present (r .«bank_high») && present (r .«bank_low»)) (bank (r .«bank_high») (r .«bank_low»)) noBank
 
--- Notes (RULES 6.1), pressure and bend (6.2), control changes (6.3), program changes (6.5). A Note On without velocity is a
--- Note Off.
+-- Notes (RULES 6.1), pressure and bend (6.2), control changes (6.3), program changes (6.5). A Note On without velocity
+-- is a Note Off.
 unfoldable pub lift : Record → Midi1 → Lifted
 lift r (noteOff1 n v) = speaks r (noteOff2 n (up 7 16 v))
 lift r (noteOn1 n v) = speaks r (cond (eqb v 0) (noteOff2 n 0) (noteOn2 n (up 7 16 v)))

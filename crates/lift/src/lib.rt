@@ -17,8 +17,8 @@ ghost use Prim.Native.Nat.{_+_, _*_, _%_, _^_};
 ghost use Rattle.scale.specs.Scale.{up};
 ghost use Rattle.ump.specs.Word.{channelOf, groupOf, voice2};
 ghost use Rattle.ump.specs.Word;
-ghost use Rattle.message.specs.Message.{programChange1, read1, voiceWord};
-ghost use Rattle.lift.specs.Lift.{controlOf, dataLow, lift, shownStatus};
+ghost use Rattle.message.specs.Message.{controlChange1, programChange1, read1, voiceWord};
+ghost use Rattle.lift.specs.Lift.{controlOf, dataLow, shownStatus};
 ghost use Rattle.lift.specs.Lift;
 ghost use Rattle.lift.specs.Values.{controlIn, messageIn, noteIn, saying, silent};
 
@@ -69,7 +69,8 @@ fn sent_up(
     w: u32,
     second: u32,
 ) -> UpwardMessage
-    ensures { λ r. ⌜ r ≡ saying after changes (voiceWord voice2 (groupOf w) (status % 2 ^ 4) (channelOf w) a b) second ⌝ }
+    ensures { λ r. ⌜ r
+        ≡ saying after changes (voiceWord voice2 (groupOf w) (status % 2 ^ 4) (channelOf w) a b) second ⌝ }
 {
     UpwardMessage {
         after,
@@ -144,7 +145,8 @@ fn plain(record: Record, w: u32) -> UpwardMessage
 }
 
 fn controlled(control: Control, record: Record, w: u32) -> UpwardMessage
-    ensures { λ r. ⌜ r ≡ controlIn w (Lift.changing control) (Lift.controlled control «record» (Word.data1 w) (Word.data2 w)) ⌝ }
+    ensures { λ r. ⌜ r
+        ≡ controlIn w (Lift.changing control) (Lift.controlled control «record» (Word.data1 w) (Word.data2 w)) ⌝ }
 {
     let v = data2(w);
     match control {
@@ -163,7 +165,7 @@ fn controlled(control: Control, record: Record, w: u32) -> UpwardMessage
 
 // One test parts the controllers that are sent as themselves from those that are not.
 fn control_change(record: Record, w: u32) -> UpwardMessage
-    ensures { λ r. ⌜ r ≡ controlIn w (Lift.changing (controlOf (Word.data1 w))) (Lift.controlled (controlOf (Word.data1 w)) «record» (Word.data1 w) (Word.data2 w)) ⌝ }
+    ensures { λ r. ⌜ r ≡ messageIn w «record» (controlChange1 (Word.data1 w) (Word.data2 w)) ⌝ }
 {
     let i = data1(w);
     if message::is_part(i) {

@@ -1,11 +1,11 @@
--- Going down (RULES 8; 01 "Going down"; 004 D.2): a MIDI 2.0 message is a list of MIDI 1.0 messages, none where it has no
--- MIDI 1.0 form.
+-- Going down (RULES 8; 01 "Going down"; 004 D.2): a MIDI 2.0 message is a list of MIDI 1.0 messages, none where it has
+-- no MIDI 1.0 form.
 use Prim.Native.Nat.{ℕ, _/_, _%_, _^_}
-use mathlib.Core.Bool.{Bool, cond, _&&_}
+use mathlib.Core.Bool.{cond, _&&_}
 use mathlib.Core.List.{List, [], _∷_}
 use lib.Dec.{eqb}
 use Rattle.scale.specs.Scale.{down}
-use Rattle.message.specs.Message.{Bank, Midi1, Midi2, assignable2, assignablePerNote2, bank, channelPressure1, part}
+use Rattle.message.specs.Message.{Midi1, Midi2, assignable2, assignablePerNote2, bank, channelPressure1, part}
 use Rattle.message.specs.Message.{channelPressure2, controlChange1, controlChange2, noBank, noteOff1, noteOff2, noteOn1}
 use Rattle.message.specs.Message.{noteOn2, perNoteManagement2, perNotePitchBend2, pitchBend1, pitchBend2, polyPressure1}
 use Rattle.message.specs.Message.{polyPressure2, programChange1, programChange2, registered2, registeredPerNote2}
@@ -21,8 +21,8 @@ entered bankControl b indexControl i x =
     controlChange1 bankControl b ∷ controlChange1 indexControl i ∷ controlChange1 6 (x / 2 ^ 7)
     ∷ controlChange1 38 (x % 2 ^ 7) ∷ []
 
--- A message of an address, unless it is the null address, and a program with its bank become several. A controller that is
--- only a part of a message has no form of its own, nor have the messages that MIDI 1.0 does not know.
+-- A message of an address, unless it is the null address, and a program with its bank become several. A controller that
+-- is only a part of a message has no form of its own, nor have the messages that MIDI 1.0 does not know.
 unfoldable pub lower : Midi2 → List Midi1
 lower (registeredPerNote2 n i v) = []
 lower (assignablePerNote2 n i v) = []

@@ -80,7 +80,8 @@ fn control_word(index: u8, value: u8, w: u32) -> u32
 
 // The address by two control changes, and the value by 6 and 38.
 fn entered_by(bank_control: u8, index_control: u8, w: u32, v: u32) -> UpToFourWords
-    ensures { λ r. ⌜ r ≡ wordsIn w (entered «bank_control» (Word.byte3 w) «index_control» (Word.byte4 w) (down 32 14 v)) ⌝ }
+    ensures { λ r. ⌜ r
+        ≡ wordsIn w (entered «bank_control» (Word.byte3 w) «index_control» (Word.byte4 w) (down 32 14 v)) ⌝ }
 {
     let value = scale::down_32_to_14(v);
     UpToFourWords {

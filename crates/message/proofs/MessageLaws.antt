@@ -1,12 +1,11 @@
 -- What is written reads back as itself: the fields of a built word, and then each message by its status. Assumes nothing.
 use mathlib.Core.Path.{_≡_, ap}
-use mathlib.Core.Bool.{cond}
 use Prim.Native.Nat.{ℕ, _+_, _*_, _/_, _%_, _^_, _<_, _≤_}
 use native.Mathlib.Omega.{arith}
 use Rattle.ump.specs.declared.Group.{Group}
 use Rattle.ump.specs.declared.Channel.{Channel}
 use Rattle.ump.specs.Word.{bankFlag, bits, byte1, byte3, byte4, channelOf, data1, data2, groupOf, messageType, status}
-use Rattle.message.specs.Message.{Bank, Fits1, Fits2, Midi1, Midi2, ReadsBack, assignable2, assignablePerNote2, bank, bankOf, channelPressure1, channelPressure2, controlChange1, controlChange2, first2, noBank, noteOff1, noteOff2, noteOn1, noteOn2, perNoteManagement2, perNotePitchBend2, pitchBend1, pitchBend2, polyPressure1, polyPressure2, programChange1, programChange2, read1, read2, registered2, registeredPerNote2, relativeAssignable2, relativeRegistered2, second2, voiceWord, write1}
+use Rattle.message.specs.Message.{Fits1, Fits2, Midi1, Midi2, ReadsBack, assignable2, assignablePerNote2, bank, bankOf, channelPressure1, channelPressure2, controlChange1, controlChange2, first2, noBank, noteOff1, noteOff2, noteOn1, noteOn2, perNoteManagement2, perNotePitchBend2, pitchBend1, pitchBend2, polyPressure1, polyPressure2, programChange1, programChange2, read1, read2, registered2, registeredPerNote2, relativeAssignable2, relativeRegistered2, second2, voiceWord, write1}
 
 -- the fields of a built word
 pub record Fields (w t g s c a b : ℕ) : Type 0 where

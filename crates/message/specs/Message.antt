@@ -1,5 +1,5 @@
--- Channel voice messages of the two protocols (RULES 1.1, 6.6 and 8; 004 sections 7.3 and 7.4), read from the words of a
--- checked packet and written to words.
+-- Channel voice messages of the two protocols (RULES 1.1, 6.6 and 8; 004 sections 7.3 and 7.4), read from the words of
+-- a checked packet and written to words.
 use Prim.Native.Nat.{ℕ, _+_, _*_, _/_, _%_, _^_, _<_, _≤_}
 use mathlib.Core.Bool.{Bool, cond, _&&_, _||_}
 use mathlib.Core.Path.{_≡_}
@@ -20,8 +20,8 @@ pub data Bank : Type 0 where
   noBank : Bank
   bank : ℕ → ℕ → Bank
 
--- MIDI 2.0. Note off and note on: note, velocity of 16 bits; the attributes of a note are not kept. Controllers of a note and
--- of an address: note or bank, index, value. Per-note management: note, flags.
+-- MIDI 2.0. Note off and note on: note, velocity of 16 bits; the attributes of a note are not kept. Controllers of a
+-- note and of an address: note or bank, index, value. Per-note management: note, flags.
 pub data Midi2 : Type 0 where
   registeredPerNote2 assignablePerNote2 registered2 assignable2 : ℕ → ℕ → ℕ → Midi2
   relativeRegistered2 relativeAssignable2 : ℕ → ℕ → ℕ → Midi2
@@ -29,7 +29,7 @@ pub data Midi2 : Type 0 where
   programChange2 : ℕ → Bank → Midi2
   channelPressure2 pitchBend2 : ℕ → Midi2
 
--- the controllers that are only a part of a message: of a bank, of an address, or of the data for an address (RULES 6.3)
+-- the controllers that are only a part of a message: of a bank, an address, or the data for an address (RULES 6.3)
 abbrev pub part : ℕ → Bool
 part i = eqb i 0 || eqb i 6 || eqb i 32 || eqb i 38 || (leb 96 i && leb i 101)
 

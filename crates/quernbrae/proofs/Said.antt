@@ -1,6 +1,6 @@
 -- What the functions over the table say at exit, from what `treat` says; and the call down at the start of the words.
 -- Assumes nothing.
-use mathlib.Core.Path.{_≡_, refl, _∙_}
+use mathlib.Core.Path.{_≡_, refl}
 use Prim.Native.Nat.{ℕ}
 use mathlib.Core.List.{List}
 use native.Mathlib.Nat.{sub-zero, zero-add}
@@ -8,7 +8,6 @@ use lib.ListN.{length}
 use Rattle.ground.specs.Store.{atStart}
 use Rattle.ground.proofs.StoreLaws.{start-written}
 use Rattle.ump.specs.Packet.{packet}
-use Rattle.stream.specs.declared.Done.{Done}
 use Rattle.stream.specs.Call.{Call, fit, readOf, sentOf, within}
 use Rattle.stream.specs.Report.{nothingYet, reported}
 use Rattle.stream.specs.Run.{Ran}

@@ -25,11 +25,12 @@ pub extern "C" fn quernbrae_empty() -> Record
 // One call up: the packet at the start of the words.
 #[no_mangle]
 pub extern "C" fn quernbrae_up(words: &[u32], table: &mut [Record], out: &mut [u32]) -> Done
-    ensures report { λ r. ⌜ r ≡ reported (oneUp (length (now (out .entry))) (now (table .entry)) (now (words .entry))) ⌝ }
+    ensures report { λ r. ⌜ r
+        ≡ reported (oneUp (length (now (out .entry))) (now (table .entry)) (now (words .entry))) ⌝ }
     ensures table { λ _. ⌜ now (table .exit)
         ≡ tableAfter (oneUp (length (now (out .entry))) (now (table .entry)) (now (words .entry))) ⌝ }
-    ensures output { λ _. ⌜ now (out .exit)
-        ≡ atStart (oneUp (length (now (out .entry))) (now (table .entry)) (now (words .entry)) .sends) (now (out .entry)) ⌝ }
+    ensures output { λ _. ⌜ now (out .exit) ≡ atStart
+        (oneUp (length (now (out .entry))) (now (table .entry)) (now (words .entry)) .sends) (now (out .entry)) ⌝ }
 {
     treat(words, table::one_call(), table, out)
 }
@@ -37,11 +38,12 @@ pub extern "C" fn quernbrae_up(words: &[u32], table: &mut [Record], out: &mut [u
 // A run up: every packet of the words, until one stops it.
 #[no_mangle]
 pub extern "C" fn quernbrae_run_up(words: &[u32], table: &mut [Record], out: &mut [u32]) -> Done
-    ensures report { λ r. ⌜ r ≡ reported (runUp (length (now (out .entry))) (now (table .entry)) (now (words .entry))) ⌝ }
+    ensures report { λ r. ⌜ r
+        ≡ reported (runUp (length (now (out .entry))) (now (table .entry)) (now (words .entry))) ⌝ }
     ensures table { λ _. ⌜ now (table .exit)
         ≡ tableAfter (runUp (length (now (out .entry))) (now (table .entry)) (now (words .entry))) ⌝ }
-    ensures output { λ _. ⌜ now (out .exit)
-        ≡ atStart (runUp (length (now (out .entry))) (now (table .entry)) (now (words .entry)) .sends) (now (out .entry)) ⌝ }
+    ensures output { λ _. ⌜ now (out .exit) ≡ atStart
+        (runUp (length (now (out .entry))) (now (table .entry)) (now (words .entry)) .sends) (now (out .entry)) ⌝ }
 {
     treat(words, table::whole_run(), table, out)
 }

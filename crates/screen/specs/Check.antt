@@ -1,5 +1,5 @@
--- What is checked of a packet's status and fields (RULES 2.2 and 2.3; 01 "What is checked"). A packet is given by its first
--- two words; the second is 0 where it has one word.
+-- What is checked of a packet's status and fields (RULES 2.2 and 2.3; 01 "What is checked"). A packet is given by its
+-- first two words; the second is 0 where it has one word.
 use Prim.Native.Nat.{ℕ}
 use mathlib.Core.Bool.{Bool, true, cond, not, _&&_, _||_}
 use mathlib.Core.List.{List, [], _∷_, map}

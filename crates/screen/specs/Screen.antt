@@ -1,7 +1,7 @@
 -- The screening of a packet: the refusals before the act, in the order of RULES 3.2.
 use Prim.Native.Nat.{ℕ}
 use mathlib.Core.Bool.{Bool, cond, not, _&&_, _||_}
-use mathlib.Core.List.{List, []}
+use mathlib.Core.List.{List}
 use lib.ListN.{length}
 use lib.Dec.{eqb, leb}
 use Rattle.ump.specs.Word.{messageType}
@@ -28,7 +28,8 @@ abbrev pub checking : Bool → List Field → Screened
 checking statusGood fs =
     cond (not statusGood) (answering badStatus) (cond (not (goodFields fs)) (answering badData) (answering goesOn))
 
--- Of a packet, or of the empty part where none is whole; `wrong` is the message type of the other protocol's voice messages.
+-- Of a packet, or of the empty part where none is whole; `wrong` is the message type of the other protocol's voice
+-- messages.
 unfoldable pub screen : ℕ → List ℕ → Screened
 screen wrong p =
     cond (eqb (length p) 0) (answering cutPacket)

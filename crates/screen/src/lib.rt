@@ -18,7 +18,8 @@ use ump::message_type;
 use ump::status;
 use ump::word_at;
 ghost use mathlib.Core.Path.{_≡_};
-ghost use Rattle.screen.specs.Check.{checkedFields, exclusiveFields, goodFields, goodStatus, systemFields, systemStatus, voice1Fields, voice1Status, voice2Fields};
+ghost use Rattle.screen.specs.Check.{checkedFields, exclusiveFields, goodFields, goodStatus, systemFields};
+ghost use Rattle.screen.specs.Check.{systemStatus, voice1Fields, voice1Status, voice2Fields};
 ghost use Rattle.screen.specs.Screen.{answering, checkVoice1, checking, reserved};
 ghost use Rattle.screen.specs.Screen;
 

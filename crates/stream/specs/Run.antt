@@ -1,4 +1,4 @@
--- A run (RULES 4; 01 "What each call answers"): one call for each packet, until one stops it. Over any step and any state.
+-- A run (RULES 4; 01 "What each call answers"): one call for each packet, until one stops it. Over any step and state.
 use Prim.Native.Nat.{ℕ, _+_}
 use mathlib.Core.List.{List, [], _∷_, _++_}
 use lib.ListN.{length}
@@ -12,8 +12,8 @@ pub record Ran (T : Type 0) : Type 0 where
   pub sends : List ℕ
   pub left : T
 
--- A call at the packet p in the state t, and then the rest of the run. Totals of words read and sent are handed on; a call
--- that stops has the last word.
+-- A call at the packet p in the state t, and then the rest of the run. Totals of words read and sent are handed on; a
+-- call that stops has the last word.
 abbrev pub thenRun : {T : Type 0} → List ℕ → T → Call T → (T → Ran T) → Ran T
 thenRun p t (went a ws u) rest =
     record { answer = rest u .answer; read = length p + rest u .read; sends = ws ++ rest u .sends; left = rest u .left }

@@ -1,17 +1,17 @@
 -- The call with a record beside the call with the table; and what the loop asks of a step. Assumes nothing.
 use Prim.Native.Nat.{ℕ, _-_, _<_}
-use mathlib.Core.Path.{_≡_, refl, ap, sym, subst, _∙_}
-use mathlib.Core.Bool.{Bool, true, false}
+use mathlib.Core.Path.{_≡_, ap, sym, subst, _∙_}
+use mathlib.Core.Bool.{false}
 use mathlib.Core.List.{List, _∷_}
 use native.Mathlib.Omega.{arith}
-use lib.ListN.{drop, getD, length, set, take}
+use lib.ListN.{getD, length, set, take}
 use lib.Dec.{eqb}
 use lib.Seq.{set-getD}
 use Rattle.ground.specs.Store.{written}
 use Rattle.ump.specs.Word.{placeOf}
-use Rattle.ump.specs.Packet.{packet, size}
+use Rattle.ump.specs.Packet.{size}
 use Rattle.stream.specs.Answers.{noTable}
-use Rattle.stream.specs.Call.{leftOf, sentOf, stopped, within}
+use Rattle.stream.specs.Call.{stopped, within}
 use Rattle.stream.proofs.RunLoop.{Inside}
 use Rattle.channel.specs.declared.Record.{Record}
 use Rattle.channel.specs.Record.{empty, wholeTable}

@@ -1,6 +1,6 @@
 -- What the loop of `treat` keeps: while there is more, what was done and then the run from here is the whole run; else all
 -- is done. Assumes nothing.
-use mathlib.Core.Path.{_≡_, refl, sym, _∙_, ap, subst}
+use mathlib.Core.Path.{_≡_, refl, sym, _∙_, subst}
 use Prim.Native.Nat.{ℕ, suc, _+_, _-_, _<_, _≤_}
 use native.Mathlib.Omega.{arith}
 use native.Mathlib.Nat.{zero-add, sub-zero}
@@ -8,19 +8,19 @@ use mathlib.Core.Bool.{Bool, true, false, cond, not, _&&_, _||_}
 use mathlib.Core.List.{List}
 use mathlib.Core.WellFounded.{WellFounded, InvImage·wf}
 use lib.WfN.{Nat·lt-wfRel}
-use lib.ListN.{drop, length}
+use lib.ListN.{length}
 use lib.Dec.{eqb, ltb}
 use borrow.Author.Tests.{eqb-true, eqb-false, eq-eqb, ltb-true, ltb-false}
 use denote.Laws.{Is}
 use Rattle.ground.specs.Store.{written}
 use Rattle.ground.proofs.Cases.{not-both}
 use Rattle.ground.proofs.StoreLaws.{start-written}
-use Rattle.ump.specs.Packet.{cut, packet}
+use Rattle.ump.specs.Packet.{cut}
 use Rattle.stream.specs.Answers.{noTable, sent}
-use Rattle.stream.specs.Call.{Call, answerOf, leftOf, readOf, sentOf, stopped, went, within}
+use Rattle.stream.specs.Call.{Call, answerOf, leftOf, readOf, sentOf, within}
 use Rattle.stream.specs.Report.{counting, further}
 use Rattle.stream.specs.Run.{Ran, called, run}
-use Rattle.stream.proofs.RunLoop.{Did, DidRun, Runs, Then, finish, start, turn}
+use Rattle.stream.proofs.RunLoop.{DidRun, Runs, Then, finish, start, turn}
 use Rattle.channel.specs.declared.Record.{Record}
 use Rattle.channel.specs.Record.{wholeTable}
 use Rattle.voice.specs.Turn.{next}

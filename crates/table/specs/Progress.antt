@@ -34,7 +34,8 @@ recordStep job = callUp
 unfoldable pub tableStep : Job → List Record → List ℕ → Call (List Record)
 tableStep job = tableUp
 
-abbrev pub askedBy : (List Record → List ℕ → Call (List Record)) → Bool → ℕ → List Record → List ℕ → Ran (ℕ × List Record)
+abbrev pub askedBy : (List Record → List ℕ → Call (List Record)) → Bool → ℕ → List Record → List ℕ
+    → Ran (ℕ × List Record)
 askedBy step once room t s = cond once (called (packet s) (room, t) (within step (room, t) s)) (runBy step room t s)
 
 unfoldable pub asked : Job → ℕ → List Record → List ℕ → Ran (ℕ × List Record)
@@ -53,8 +54,8 @@ begun job n l = opening (job .once) n l
 abbrev pub callAt : {T : Type 0} → (T → List ℕ → Call T) → List ℕ → Progress → T → List ℕ → Call (ℕ × T)
 callAt step ws p t out = within step (length out - p .done .written, t) (drop (p .done .read) ws)
 
--- After a call that leaves the report d, in words of l. A call that is the only one, or that read nothing, is the last and
--- has the answer; a run that goes on has none yet.
+-- After a call that leaves the report d, in words of l. A call that is the only one, or that read nothing, is the last
+-- and has the answer; a run that goes on has none yet.
 abbrev pub onward : Bool → ℕ → Progress → Done → Progress
 onward once l p d =
     let last = once || eqb (d .read) (p .done .read) in
@@ -69,6 +70,9 @@ stateAfter step ws p t out = leftOf (length out - p .done .written, t) (callAt s
 
 abbrev pub outputAfterCall : {T : Type 0} → (T → List ℕ → Call T) → List ℕ → Progress → T → List ℕ → List ℕ
 outputAfterCall step ws p t out = written (p .done .written) (sentOf (callAt step ws p t out)) out
+
+abbrev pub progressAfter : Job → List ℕ → Progress → List Record → List ℕ → Progress
+progressAfter job ws p t out = after job ws p (callAt (tableStep job) ws p t out)
 
 -- one packet with its record
 unfoldable pub stepped : Job → List ℕ → Progress → Record → List ℕ → RecordAndProgress

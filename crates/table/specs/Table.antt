@@ -1,7 +1,7 @@
 -- Calls and runs over the table that the caller lends (RULES 3 and 4).
 use Prim.Native.Nat.{ℕ}
 use mathlib.Core.Path.{_≡_}
-use mathlib.Core.Bool.{Bool, true, cond}
+use mathlib.Core.Bool.{true, cond}
 use mathlib.Core.List.{List, []}
 use lib.ListN.{getD, length, set}
 use lib.Dec.{eqb}

@@ -18,7 +18,8 @@ ghost use Rattle.stream.specs.Answers.{sent};
 ghost use Rattle.stream.specs.Report.{reported};
 ghost use Rattle.channel.specs.Record.{wholeTable};
 ghost use Rattle.table.specs.Table.{tableAfter};
-ghost use Rattle.table.specs.Progress.{after, asked, begun, callAt, oneCall, outputAfterCall, recordStep, stateAfter, stepped, tableStep, wholeRun};
+ghost use Rattle.table.specs.Progress.{asked, begun, oneCall, outputAfterCall, progressAfter, recordStep};
+ghost use Rattle.table.specs.Progress.{stateAfter, stepped, tableStep, wholeRun};
 
 // What the loop is told: whether it is to make one call only.
 pub struct Job {
@@ -84,7 +85,8 @@ fn answer_of(last: bool, answer: u32) -> u32
 // One packet, with its record.
 fn step(words: &[u32], job: Job, p: Progress, record: Record, out: &mut [u32]) -> RecordAndProgress
     ensures step { λ r. ⌜ r ≡ stepped job (now (words .entry)) p «record» (now (out .entry)) ⌝ }
-    ensures output { λ _. ⌜ now (out .exit) ≡ outputAfterCall (recordStep job) (now (words .entry)) p «record» (now (out .entry)) ⌝ }
+    ensures output { λ _. ⌜ now (out .exit)
+        ≡ outputAfterCall (recordStep job) (now (words .entry)) p «record» (now (out .entry)) ⌝ }
 {
     let past = p.done;
     let turned = voice::up(words, past, record, out);
@@ -106,7 +108,7 @@ fn step(words: &[u32], job: Job, p: Progress, record: Record, out: &mut [u32]) -
 fn one(words: &[u32], job: Job, p: Progress, table: &mut [Record], out: &mut [u32]) -> Progress
     requires { ⌜ length (now table) ≡ wholeTable ⌝ }
     ensures progress { λ r. ⌜ r
-        ≡ after job (now (words .entry)) p (callAt (tableStep job) (now (words .entry)) p (now (table .entry)) (now (out .entry))) ⌝ }
+        ≡ progressAfter job (now (words .entry)) p (now (table .entry)) (now (out .entry)) ⌝ }
     ensures table { λ _. ⌜ now (table .exit)
         ≡ stateAfter (tableStep job) (now (words .entry)) p (now (table .entry)) (now (out .entry)) ⌝ }
     ensures output { λ _. ⌜ now (out .exit)

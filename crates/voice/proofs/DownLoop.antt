@@ -1,12 +1,12 @@
 -- The loop of `run_down`: one more call down, and what it makes of the run so far. Assumes nothing.
-use mathlib.Core.Path.{_≡_, refl, sym, ap, _∙_}
+use mathlib.Core.Path.{_≡_, refl, ap, _∙_}
 use mathlib.Core.List.{List}
 use Prim.Native.Nat.{ℕ, _+_, _-_, _<_}
 use native.Mathlib.Omega.{arith}
 use lib.ListN.{drop, length}
 use Rattle.stream.specs.declared.Done.{Done}
 use Rattle.stream.specs.Answers.{sent}
-use Rattle.stream.specs.Call.{Call, answerOf, readOf, sentOf, within}
+use Rattle.stream.specs.Call.{Call, readOf, sentOf, within}
 use Rattle.stream.specs.Report.{counting, reported}
 use Rattle.stream.specs.Run.{Ran}
 use Rattle.stream.proofs.RunLoop.{DidRun, Runs, turn}

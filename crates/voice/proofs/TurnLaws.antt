@@ -1,26 +1,26 @@
 -- What a call in the middle of a stream comes to: a refusal, a stop, words sent, and a message with its record. Assumes nothing.
 use mathlib.Core.Path.{_≡_, refl, sym, ap, _∙_}
-use mathlib.Core.Bool.{Bool, true, false, cond, _&&_}
+use mathlib.Core.Bool.{Bool, true, false, cond}
 use mathlib.Core.Logic.{⊎-elim}
 use mathlib.Core.Option.{Option, none, some}
 use mathlib.Core.List.{List, [], _∷_, map}
 use Prim.Native.Nat.{ℕ, zero, suc, _+_, _-_, _<_, _≤_, _^_}
 use native.Mathlib.Omega.{arith}
-use native.Mathlib.Nat.{add-zero, sub-zero}
+use native.Mathlib.Nat.{add-zero}
 use lib.Dec.{eqb, leb, leb·zero, ltb}
 use lib.ListN.{List·getD-eq-default, drop, drop-of-length-le, getD, length, length-drop, length-map, length-take, take}
 use lib.Seq.{drop-cons, sets, sets-eq}
 use borrow.Author.Tests.{eqb-false, eqb-true, le-leb, lt-leb, ltb-false, ltb-true, ne-eqb}
 use Rattle.ground.specs.Store.{written}
 use Rattle.ground.proofs.Bools.{and-false}
-use Rattle.ground.proofs.Cases.{by-bool, choose, not-both}
+use Rattle.ground.proofs.Cases.{by-bool, not-both}
 use Rattle.ground.proofs.StoreLaws.{written-none}
 use Rattle.ump.specs.Word.{channelOf, groupOf, messageType, voice1, voice2}
 use Rattle.ump.specs.Packet.{first, packet, size}
 use Rattle.ump.proofs.PacketLaws.{packet-length, packet-size, size-range}
 use Rattle.stream.specs.declared.Done.{Done}
 use Rattle.stream.specs.Answers.{noForm, noRoom, notSound, sent, stopsRun, takenIn}
-use Rattle.stream.specs.Call.{Call, answerOf, fit, leftOf, readOf, refused, sentOf, stopped, went}
+use Rattle.stream.specs.Call.{Call, answerOf, leftOf, readOf, refused, sentOf, stopped, went}
 use Rattle.stream.specs.Report.{counting}
 use Rattle.stream.proofs.CallLaws.{refusal, refused-fits}
 use Rattle.screen.specs.declared.Screened.{Screened}

@@ -15,7 +15,7 @@ use Rattle.screen.specs.Screen.{screen, screened}
 use Rattle.channel.specs.declared.Record.{Record}
 use Rattle.channel.specs.Record.{sound}
 use Rattle.message.specs.Message.{Midi1, Midi2, read1, read2, write1, write2}
-use Rattle.lift.specs.Lift.{Lifted, changes, lift}
+use Rattle.lift.specs.Lift.{changes, lift}
 use Rattle.lower.specs.Lower.{lower}
 
 -- what a lifted message sends: its two words, or nothing

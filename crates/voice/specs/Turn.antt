@@ -41,8 +41,8 @@ turned d p out r may c =
       done = reportOf d p out c;
     }
 
--- A row of words for an output from a place on, which holds them all or none; and what a packet of n words that sends them
--- comes to.
+-- A row of words for an output from a place on, which holds them all or none; and what a packet of n words that sends
+-- them comes to.
 abbrev pub storedIn : ℕ → List ℕ → List ℕ → List ℕ
 storedIn to out ws = cond (leb (length ws) (length out - to)) (written to ws out) out
 

@@ -11,7 +11,7 @@ use ump::MIDI1_VOICE;
 use ump::MIDI2_VOICE;
 use ump::word_at;
 ghost use mathlib.Core.Path.{_≡_};
-ghost use Prim.Native.Nat.{_+_, _≤_, _<_, _^_};
+ghost use Prim.Native.Nat.{_+_, _<_, _^_};
 ghost use lib.ListN.{length};
 ghost use Rattle.ump.specs.Word.{voice1};
 ghost use Rattle.ground.specs.Store.{atStart};
@@ -24,7 +24,8 @@ ghost use Rattle.voice.specs.Turn.{next, outputOf, reportOf};
 // A checked MIDI 2.0 voice message.
 fn speak_down(past: Done, packet: &[u32], out: &mut [u32]) -> Done
     requires { ⌜ past .read + length (now packet) < 2 ^ 64 ⌝ }
-    ensures report { λ r. ⌜ r ≡ reportOf past (now (packet .entry)) (now (out .entry)) (voiceDown (now (packet .entry))) ⌝ }
+    ensures report { λ r. ⌜ r
+        ≡ reportOf past (now (packet .entry)) (now (out .entry)) (voiceDown (now (packet .entry))) ⌝ }
     ensures output { λ _. ⌜ now (out .exit) ≡ outputOf past (now (out .entry)) (voiceDown (now (packet .entry))) ⌝ }
 {
     let words = lower::lowered(word_at(packet, 0), word_at(packet, 1));

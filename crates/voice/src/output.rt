@@ -103,7 +103,8 @@ pub(crate) fn onward(wrong: u32, past: Done, packet: &[u32], out: &mut [u32]) ->
     requires { ⌜ (length (now packet) ≤ 4) × (past .read + length (now packet) < 2 ^ 64) ⌝ }
     ensures report { λ r. ⌜ r
         ≡ reportOf past (now (packet .entry)) (now (out .entry)) (onwardOf wrong (now (packet .entry))) ⌝ }
-    ensures output { λ _. ⌜ now (out .exit) ≡ outputOf past (now (out .entry)) (onwardOf wrong (now (packet .entry))) ⌝ }
+    ensures output { λ _. ⌜ now (out .exit)
+        ≡ outputOf past (now (out .entry)) (onwardOf wrong (now (packet .entry))) ⌝ }
 {
     let screened = screen::screen(wrong, packet);
     if screened.answer == GOES_ON {

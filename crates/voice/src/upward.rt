@@ -51,7 +51,8 @@ fn leaves(message: UpwardMessage, done: Done) -> RecordAndReport
 // A checked message with its sound record: its two words, or none, into the output.
 fn speak(past: Done, record: Record, w: u32, out: &mut [u32]) -> RecordAndReport
     requires { ⌜ past .read + 1 < 2 ^ 64 ⌝ }
-    ensures turn { λ r. ⌜ r ≡ turned past (w ∷ []) (now (out .entry)) «record» (changes (read1 w)) (spoken «record» w) ⌝ }
+    ensures turn { λ r. ⌜ r
+        ≡ turned past (w ∷ []) (now (out .entry)) «record» (changes (read1 w)) (spoken «record» w) ⌝ }
     ensures output { λ _. ⌜ now (out .exit) ≡ outputOf past (now (out .entry)) (spoken «record» w) ⌝ }
 {
     let message = lift::lifted(record, w);
@@ -72,7 +73,8 @@ fn speak(past: Done, record: Record, w: u32, out: &mut [u32]) -> RecordAndReport
 // A checked message with its record, which is asked to be sound.
 fn speak_up(past: Done, record: Record, w: u32, out: &mut [u32]) -> RecordAndReport
     requires { ⌜ past .read + 1 < 2 ^ 64 ⌝ }
-    ensures turn { λ r. ⌜ r ≡ turned past (w ∷ []) (now (out .entry)) «record» (changes (read1 w)) (speakUp «record» w) ⌝ }
+    ensures turn { λ r. ⌜ r
+        ≡ turned past (w ∷ []) (now (out .entry)) «record» (changes (read1 w)) (speakUp «record» w) ⌝ }
     ensures output { λ _. ⌜ now (out .exit) ≡ outputOf past (now (out .entry)) (speakUp «record» w) ⌝ }
 {
     if record.is_sound() {

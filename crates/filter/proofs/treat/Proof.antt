@@ -27,19 +27,13 @@ pub treat-spec : {M : Type 1} → statement M
 treat-spec =
     tie.close
     (tie.spec
-    (λ c. search needs)
-    (λ c κs. search needs)
-    (λ c. search needs)
-    (λ c κs. search needs)
+    (λ c. search needs) (λ c κs. search needs) (λ c. search needs) (λ c κs. search needs)
     (λ c κs. let u = c .before .before .before .before .before .before .up-some in sent-most _ _ _ (c .before .before .before .before .before .before .before .before .before .before .before .before .before .args .sent .now) _ (u .result .done) (u .ensures .0) (u .ensures .3) (u .kept .1 .1 .0))
-    (λ c. search needs)
-    (λ c κs. search needs)
+    (λ c. search needs) (λ c κs. search needs)
     (λ c κs. let u = c .before .before .before .before .before .down-some in sent-most _ _ _ (c .before .before .before .before .before .before .before .before .before .before .before .before .args .sent .now) _ (u .result .done) (u .ensures .0) (u .ensures .2) (u .kept .1 .0))
     (λ c. search needs)
     returns
-    (λ c. search needs)
-    (λ c. search needs)
+    (λ c. search needs) (λ c. search needs)
     returns-2
-    (λ c. search needs)
-    (λ c. search needs)
+    (λ c. search needs) (λ c. search needs)
     returns-3)

@@ -101,9 +101,7 @@ down-some-spec =
     Inv-loop
     μ-loop
     (λ c. (start callDown down-near down-inside tt _ _, begin callDown down-near down-inside tt _ _))
-    (λ c κs. search needs)
-    (λ c κs. search needs)
-    (λ c. search needs)
+    (λ c κs. search needs) (λ c κs. search needs) (λ c. search needs)
     returns
     counted-requires
     add-at

@@ -42,16 +42,12 @@ pub list-spec : {M : Type 1} → statement M
 list-spec =
     tie.close
     (tie.spec
-    (λ c. search needs)
-    (λ c κs. search needs)
+    (λ c. search needs) (λ c κs. search needs)
     returns
     (λ c. words (c .before .before .before .before) .0)
     (λ c. words (c .before .before .before .before .before) .1)
-    (λ c κs. search needs)
-    (λ c κs. search needs)
-    (λ c. search needs)
+    (λ c κs. search needs) (λ c κs. search needs) (λ c. search needs)
     (λ c. rw (c .report .ensures) (lines (c .before .before .before .before) .0 (c .before .if2 .taken)))
     (λ c. lines (c .before .before .before .before) .1 (c .before .if2 .left) .0)
-    (λ c κs. search needs)
-    (λ c. search needs)
+    (λ c κs. search needs) (λ c. search needs)
     (λ c. rw (c .report2 .ensures) (lines (c .before .before .before .before .before) .1 (c .before .before .if2 .left) .1)))

@@ -79,8 +79,7 @@ list-some-spec =
     Inv-loop
     μ-loop
     (λ c. (start listUp list-near list-inside _ _ _, search (length-mapped, needs)))
-    (λ c. search needs)
-    (λ c. search needs)
+    (λ c. search needs) (λ c. search needs)
     (λ c κs. tt)
     (λ c. search needs)
     (λ c. c .record-place .ensures .1)

@@ -111,8 +111,7 @@ up-some-spec =
     Inv-loop
     μ-loop
     loop-holds
-    (λ c. search needs)
-    (λ c. search needs)
+    (λ c. search needs) (λ c. search needs)
     (λ c κs. tt)
     (λ c. search needs)
     (λ c. c .record-place .ensures .1)

@@ -15,23 +15,13 @@ unfolding changes first2 lift read1 second2
 lifted-spec =
     tie.close
     (tie.spec
-    (λ c κs. search needs)
-    (λ c κs. search needs)
+    (λ c κs. search needs) (λ c κs. search needs)
     (λ c. let w = c .before .before .before .args .w in
     let r = c .before .before .before .args .«record» in
     rw (c .note .ensures, c .before .before .status .ensures) (note-way w r (rw (c .before .before .status .ensures) at (c .before .if1 .taken))))
-    (λ c κs. search needs)
-    (λ c κs. search needs)
-    (λ c κs. search needs)
-    (λ c κs. search needs)
-    (λ c κs. search needs)
-    (λ c κs. search needs)
-    (λ c κs. search needs)
-    (λ c κs. search needs)
-    (λ c κs. search needs)
-    (λ c κs. search needs)
-    (λ c κs. search needs)
-    (λ c κs. search needs)
+    (λ c κs. search needs) (λ c κs. search needs) (λ c κs. search needs) (λ c κs. search needs)
+    (λ c κs. search needs) (λ c κs. search needs) (λ c κs. search needs) (λ c κs. search needs)
+    (λ c κs. search needs) (λ c κs. search needs) (λ c κs. search needs) (λ c κs. search needs)
     (λ c κs. search needs)
     (λ c. simp (seven-bits1, seven-bits2, tests, c .sent-up .ensures, c .before .seven .ensures, c .before .before .data2 .ensures, c .before .before .before .data1 .ensures, c .before .before .before .before .match .keys1, c .before .before .before .before .before .if1 .left, ← c .before .before .before .before .before .before .status .ensures))
     (λ c. simp (seven-bits1, seven-bits2, tests, c .control-change .ensures, c .before .match .keys2, c .before .before .if1 .left, ← c .before .before .before .status .ensures))

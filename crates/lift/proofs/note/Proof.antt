@@ -7,9 +7,6 @@ pub note-spec : {M : Type 1} → statement M
 note-spec =
     tie.close
     (tie.spec
-    (λ c κs. search needs)
-    (λ c κs. search needs)
-    (λ c κs. search needs)
-    (λ c κs. search needs)
+    (λ c κs. search needs) (λ c κs. search needs) (λ c κs. search needs) (λ c κs. search needs)
     (λ c κs. search needs)
     (λ c. simp (c .sent-up .ensures, c .before .velocity .ensures, c .before .before .data1 .ensures, c .before .before .before .shown .ensures, c .before .before .before .before .data2 .ensures)))

@@ -1,5 +1,4 @@
 -- `lift::plain` meets its contract: by one row of calls. Assumes nothing.
-use Rattle.lift.specs.Lift.{}
 use Rattle.message.specs.Message.{first2, second2}
 use Rattle.ump.proofs.FieldLaws.{seven-bits2}
 use borrow.Author.Needs.{needs}
@@ -11,8 +10,5 @@ unfolding first2 second2
 plain-spec =
     tie.close
     (tie.spec
-    (λ c κs. search needs)
-    (λ c κs. search needs)
-    (λ c κs. search needs)
-    (λ c κs. search needs)
+    (λ c κs. search needs) (λ c κs. search needs) (λ c κs. search needs) (λ c κs. search needs)
     (λ c. simp (seven-bits2, c .sent-up .ensures, c .before .seven .ensures, c .before .before .data2 .ensures, c .before .before .before .data1 .ensures)))

@@ -11,16 +11,8 @@ unfolding banked2 changes first2 lift second2
 program-spec =
     tie.close
     (tie.spec
-    (λ c κs. search needs)
-    (λ c κs. search needs)
-    (λ c. search needs)
-    (λ c. search needs)
-    (λ c. search needs)
-    (λ c. search needs)
-    (λ c. search needs)
-    (λ c. search needs)
-    (λ c. search needs)
-    (λ c κs. search needs)
+    (λ c κs. search needs) (λ c κs. search needs) (λ c. search needs) (λ c. search needs) (λ c. search needs)
+    (λ c. search needs) (λ c. search needs) (λ c. search needs) (λ c. search needs) (λ c κs. search needs)
     (λ c κs. search needs)
     (λ c. simp (tests, c .sent-up .ensures, c .before .if1 .taken, c .before .before .data1 .ensures, c .before .before .before .with-bank-spent .ensures))
     (λ c. simp (tests, c .sent-up2 .ensures, c .before .if1 .left, c .before .before .data1 .ensures, c .before .before .before .with-bank-spent .ensures)))

@@ -1,5 +1,4 @@
 -- `lift::sent_up` meets its contract: the first word is the one that the message is written with. Assumes nothing.
-use Rattle.lift.specs.Lift.{}
 use borrow.Author.Needs.{needs}
 use Rattle.lift.proofs.sent_up.Statement.{statement}
 use Rattle.lift.proofs.sent_up.Tie as tie

@@ -9,8 +9,5 @@ unfolding write1
 bend-down-spec =
     tie.close
     (tie.spec
-    (λ c κs. search needs)
-    (λ c. search needs)
-    (λ c. search needs)
-    (λ c κs. search needs)
+    (λ c κs. search needs) (λ c. search needs) (λ c. search needs) (λ c κs. search needs)
     (λ c. simp (c .one-word .ensures, c .before .down-32-to-14 .ensures)))

@@ -1,5 +1,4 @@
 -- `screen::check` meets its contract: by what the two halves of the check ensure. Assumes nothing.
-use Rattle.screen.specs.Screen.{}
 use Rattle.ground.proofs.Tests.{tests}
 use borrow.Author.Needs.{needs}
 use Rattle.screen.proofs.check.Statement.{statement}
@@ -9,10 +8,7 @@ pub check-spec : {M : Type 1} → statement M
 check-spec =
     tie.close
     (tie.spec
-    (λ c κs. search needs)
-    (λ c κs. search needs)
-    (λ c κs. search needs)
-    (λ c κs. search needs)
+    (λ c κs. search needs) (λ c κs. search needs) (λ c κs. search needs) (λ c κs. search needs)
     (λ c κs. search needs)
     (λ c. simp (tests, ← c .finding .ensures, c .before .if2 .taken, ← c .before .before .is-good-data .ensures, c .before .before .before .if1 .taken, ← c .before .before .before .before .is-good-status .ensures))
     (λ c. simp (tests, ← c .finding2 .ensures, c .before .if2 .left, ← c .before .before .is-good-data .ensures, c .before .before .before .if1 .taken, ← c .before .before .before .before .is-good-status .ensures))

@@ -10,10 +10,7 @@ unfolding checkVoice1
 check-voice1-spec =
     tie.close
     (tie.spec
-    (λ c κs. search needs)
-    (λ c κs. search needs)
-    (λ c κs. search needs)
-    (λ c κs. search needs)
+    (λ c κs. search needs) (λ c κs. search needs) (λ c κs. search needs) (λ c κs. search needs)
     (λ c κs. search needs)
     (λ c. simp (tests, ← c .finding .ensures, c .before .if2 .taken, ← c .before .before .is-good-voice1 .ensures, c .before .before .before .if1 .taken, ← c .before .before .before .before .is-voice1-status .ensures))
     (λ c. simp (tests, ← c .finding2 .ensures, c .before .if2 .left, ← c .before .before .is-good-voice1 .ensures, c .before .before .before .if1 .taken, ← c .before .before .before .before .is-voice1-status .ensures))

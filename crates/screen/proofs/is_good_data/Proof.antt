@@ -10,10 +10,7 @@ unfolding checkedFields goodFields
 is-good-data-spec =
     tie.close
     (tie.spec
-    (λ c κs. search needs)
-    (λ c κs. search needs)
-    (λ c κs. search needs)
-    (λ c κs. search needs)
+    (λ c κs. search needs) (λ c κs. search needs) (λ c κs. search needs) (λ c κs. search needs)
     (λ c κs. search needs)
     (λ c. simp (← c .is-good-system .ensures, c .before .match .keys1, ← c .before .before .message-type .ensures))
     (λ c. simp (← c .is-good-voice1 .ensures, c .before .match .keys2, ← c .before .before .message-type .ensures))

@@ -1,6 +1,5 @@
 -- `screen::is_good_exclusive` meets its contract: count by count; a count above 6 is above its most. Assumes nothing.
 use Rattle.screen.specs.Check.{exclusiveFields, goodFields}
-use Rattle.ground.proofs.Tests.{tests}
 use mathlib.Core.Path.{sym}
 use Prim.Native.Nat.{_<_}
 use native.Mathlib.Omega.{arith}
@@ -14,13 +13,8 @@ unfolding exclusiveFields goodFields
 is-good-exclusive-spec =
     tie.close
     (tie.spec
-    (λ c κs. search needs)
-    (λ c κs. search needs)
-    (λ c κs. search needs)
-    (λ c κs. search needs)
-    (λ c κs. search needs)
-    (λ c κs. search needs)
-    (λ c κs. search needs)
+    (λ c κs. search needs) (λ c κs. search needs) (λ c κs. search needs) (λ c κs. search needs)
+    (λ c κs. search needs) (λ c κs. search needs) (λ c κs. search needs)
     (λ c. simp (c .match .keys1, ← c .before .byte42 .ensures, ← c .before .before .byte32 .ensures, ← c .before .before .before .byte2 .ensures, ← c .before .before .before .before .byte1 .ensures, ← c .before .before .before .before .before .byte4 .ensures, ← c .before .before .before .before .before .before .byte3 .ensures, ← c .before .before .before .before .before .before .before .count .ensures))
     (λ c. simp (c .match .keys2, ← c .before .byte42 .ensures, ← c .before .before .byte32 .ensures, ← c .before .before .before .byte2 .ensures, ← c .before .before .before .before .byte1 .ensures, ← c .before .before .before .before .before .byte4 .ensures, ← c .before .before .before .before .before .before .byte3 .ensures, ← c .before .before .before .before .before .before .before .count .ensures))
     (λ c. simp (c .match .keys3, ← c .before .byte42 .ensures, ← c .before .before .byte32 .ensures, ← c .before .before .before .byte2 .ensures, ← c .before .before .before .before .byte1 .ensures, ← c .before .before .before .before .before .byte4 .ensures, ← c .before .before .before .before .before .before .byte3 .ensures, ← c .before .before .before .before .before .before .before .count .ensures))

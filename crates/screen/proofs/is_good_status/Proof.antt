@@ -10,13 +10,8 @@ unfolding goodStatus
 is-good-status-spec =
     tie.close
     (tie.spec
-    (λ c κs. search needs)
-    (λ c κs. search needs)
-    (λ c κs. search needs)
-    (λ c κs. search needs)
-    (λ c κs. search needs)
-    (λ c κs. search needs)
-    (λ c κs. search needs)
+    (λ c κs. search needs) (λ c κs. search needs) (λ c κs. search needs) (λ c κs. search needs)
+    (λ c κs. search needs) (λ c κs. search needs) (λ c κs. search needs)
     (λ c. simp (← c .status .ensures, c .before .match .keys1, ← c .before .before .message-type .ensures))
     (λ c. simp (← c .is-system-status .ensures, ← c .before .byte2 .ensures, c .before .before .match .keys2, ← c .before .before .before .message-type .ensures))
     (λ c. simp (← c .is-voice1-status .ensures, c .before .match .keys3, ← c .before .before .message-type .ensures))

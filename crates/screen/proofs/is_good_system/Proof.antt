@@ -10,10 +10,8 @@ unfolding goodFields systemFields
 is-good-system-spec =
     tie.close
     (tie.spec
-    (λ c κs. search needs)
-    (λ c κs. search needs)
+    (λ c κs. search needs) (λ c κs. search needs)
     (λ c. simp (tests, ← c .byte3 .ensures, c .before .if1 .taken, ← c .before .before .byte2 .ensures))
-    (λ c κs. search needs)
-    (λ c κs. search needs)
+    (λ c κs. search needs) (λ c κs. search needs)
     (λ c. simp (tests, ← c .byte4 .ensures, ← c .before .byte32 .ensures, c .before .before .if2 .taken, c .before .before .before .if1 .left, ← c .before .before .before .before .byte2 .ensures))
     (λ c. simp (tests, c .if2 .left, c .before .if1 .left, ← c .before .before .byte2 .ensures)))

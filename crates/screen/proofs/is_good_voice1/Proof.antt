@@ -10,9 +10,6 @@ unfolding goodFields voice1Fields
 is-good-voice1-spec =
     tie.close
     (tie.spec
-    (λ c κs. search needs)
-    (λ c κs. search needs)
-    (λ c κs. search needs)
-    (λ c κs. search needs)
+    (λ c κs. search needs) (λ c κs. search needs) (λ c κs. search needs) (λ c κs. search needs)
     (λ c. simp (tests, ← c .byte3 .ensures, c .before .if1 .taken, ← c .before .before .status .ensures))
     (λ c. simp (tests, ← c .byte4 .ensures, ← c .before .byte32 .ensures, c .before .before .if1 .left, ← c .before .before .before .status .ensures)))

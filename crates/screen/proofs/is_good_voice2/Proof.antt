@@ -10,14 +10,9 @@ unfolding goodFields voice2Fields
 is-good-voice2-spec =
     tie.close
     (tie.spec
-    (λ c κs. search needs)
-    (λ c κs. search needs)
-    (λ c κs. search needs)
+    (λ c κs. search needs) (λ c κs. search needs) (λ c κs. search needs)
     (λ c. simp (tests, ← c .byte4 .ensures, ← c .before .byte3 .ensures, c .before .before .if1 .taken, ← c .before .before .before .status .ensures))
-    (λ c κs. search needs)
-    (λ c κs. search needs)
-    (λ c κs. search needs)
-    (λ c κs. search needs)
+    (λ c κs. search needs) (λ c κs. search needs) (λ c κs. search needs) (λ c κs. search needs)
     (λ c. simp (tests, ← c .byte42 .ensures, ← c .before .byte32 .ensures, ← c .before .before .byte1 .ensures, c .before .before .before .if3 .taken, ← c .before .before .before .before .has-bank .ensures, c .before .before .before .before .before .if2 .taken, c .before .before .before .before .before .before .if1 .left, ← c .before .before .before .before .before .before .before .status .ensures))
     (λ c κs. search needs)
     (λ c. simp (tests, ← c .byte12 .ensures, c .before .if3 .left, ← c .before .before .has-bank .ensures, c .before .before .before .if2 .taken, c .before .before .before .before .if1 .left, ← c .before .before .before .before .before .status .ensures))

@@ -1,5 +1,4 @@
 -- `screen::is_voice1_status` meets its contract: the status is the word's. Assumes nothing.
-use Rattle.screen.specs.Check.{}
 use borrow.Author.Needs.{needs}
 use Rattle.screen.proofs.is_voice1_status.Statement.{statement}
 use Rattle.screen.proofs.is_voice1_status.Tie as tie

@@ -1,13 +1,11 @@
 -- `table::step` meets its contract: `voice::up` has the totals, and what is left is whether the call was the last.
 -- Assumes nothing.
-use mathlib.Core.Path.{_≡_, ap}
-use Prim.Native.Nat.{ℕ}
+use mathlib.Core.Path.{ap}
 use denote.Ref.{now}
 use lib.ListN.{length}
 use Rattle.voice.specs.declared.RecordAndReport.{RecordAndReport}
 use Rattle.stream.specs.Call.{within}
 use Rattle.voice.specs.Packet.{callUp}
-use Rattle.table.specs.declared.RecordAndProgress.{RecordAndProgress}
 use Rattle.table.specs.Progress.{after, onward, recordStep, stepped}
 use borrow.Author.Needs.{needs}
 use Rattle.table.proofs.step.Statement.{statement}
@@ -25,8 +23,5 @@ pub step-spec : {M : Type 1} → statement M
 step-spec =
     tie.close
     (tie.spec
-    (λ c κs. search needs)
-    (λ c κs. search needs)
-    (λ c κs. search needs)
-    (λ c. search needs)
+    (λ c κs. search needs) (λ c κs. search needs) (λ c κs. search needs) (λ c. search needs)
     returns)

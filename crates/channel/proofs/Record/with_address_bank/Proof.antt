@@ -7,6 +7,5 @@ pub with-address-bank-spec : {M : Type 1} → statement M
 with-address-bank-spec =
     tie.close
     (tie.spec
-    (λ c κs. search needs)
-    (λ c κs. search needs)
+    (λ c κs. search needs) (λ c κs. search needs)
     (λ c. simp (c .addressed .ensures, c .before .kept-half .ensures)))

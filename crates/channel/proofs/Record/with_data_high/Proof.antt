@@ -9,8 +9,6 @@ unfolding withDataHigh
 with-data-high-spec =
     tie.close
     (tie.spec
-    (λ c κs. search needs)
-    (λ c κs. search needs)
-    (λ c κs. search needs)
+    (λ c κs. search needs) (λ c κs. search needs) (λ c κs. search needs)
     (λ c. simp (c .addressed .ensures, c .before .if1 .taken, ← c .before .before .address-null .ensures, ← c .before .before .before .address-complete .ensures))
     (λ c. simp (c .if1 .left, ← c .before .address-null .ensures, ← c .before .before .address-complete .ensures)))

@@ -3,7 +3,7 @@
 use mathlib.Core.Path.{_≡_, sym, ap, _∙_}
 use denote.Ref.{now}
 use native.Mathlib.Omega.{arith}
-use lib.ListN.{drop, length}
+use lib.ListN.{drop}
 use Rattle.ump.specs.Word.{messageType, voice2}
 use Rattle.ump.specs.Packet.{first}
 use Rattle.voice.proofs.TurnLaws.{down-other, down-voice, next-few, next-fits}
@@ -37,9 +37,7 @@ pub down-spec : {M : Type 1} → statement M
 down-spec =
     tie.close
     (tie.spec
-    (λ c κs. search needs)
-    (λ c κs. search needs)
-    (λ c κs. search needs)
+    (λ c κs. search needs) (λ c κs. search needs) (λ c κs. search needs)
     voice-down-requires
     onward-requires
     (λ c. search needs)

@@ -57,9 +57,7 @@ run-down-spec =
     Inv-loop
     μ-loop
     (λ c. start callDown down-near down-inside tt _ _)
-    (λ c κs. search needs)
-    (λ c κs. search needs)
-    (λ c. search needs)
+    (λ c κs. search needs) (λ c κs. search needs) (λ c. search needs)
     returns
     loop-less
     loop-again

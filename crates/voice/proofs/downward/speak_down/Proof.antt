@@ -1,5 +1,5 @@
 -- `voice::downward::speak_down` meets its contract: a message without a form is refused, and one with a form sends its words. Assumes nothing.
-use mathlib.Core.Path.{_≡_, refl, ap}
+use mathlib.Core.Path.{refl, ap}
 use native.Mathlib.Omega.{arith}
 use lib.ListN.{length-map}
 use Rattle.ump.specs.Word.{channelOf, groupOf}
@@ -40,10 +40,7 @@ pub speak-down-spec : {M : Type 1} → statement M
 speak-down-spec =
     tie.close
     (tie.spec
-    (λ c κs. search needs)
-    (λ c κs. search needs)
-    (λ c κs. search needs)
-    (λ c κs. search needs)
+    (λ c κs. search needs) (λ c κs. search needs) (λ c κs. search needs) (λ c κs. search needs)
     send-requires
     returns
     (λ c. search needs)

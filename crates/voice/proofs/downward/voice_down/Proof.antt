@@ -1,5 +1,5 @@
 -- `voice::downward::voice_down` meets its contract: the screening decides between the message and a refusal. Assumes nothing.
-use mathlib.Core.Path.{_≡_, refl}
+use mathlib.Core.Path.{refl}
 use denote.Ref.{now}
 use Rattle.voice.specs.Packet.{voiceDown}
 use Rattle.voice.proofs.TurnLaws.{passed-comes, refused-comes}
@@ -23,9 +23,6 @@ pub voice-down-spec : {M : Type 1} → statement M
 voice-down-spec =
     tie.close
     (tie.spec
-    (λ c κs. search needs)
-    (λ c κs. search needs)
-    (λ c κs. search needs)
-    (λ c. search needs)
+    (λ c κs. search needs) (λ c κs. search needs) (λ c κs. search needs) (λ c. search needs)
     returns
     returns-2)

@@ -1,5 +1,5 @@
 -- `voice::output::onward` meets its contract: the screening decides between the packet's own words and a refusal. Assumes nothing.
-use mathlib.Core.Path.{_≡_, refl, ap}
+use mathlib.Core.Path.{refl, ap}
 use denote.Ref.{now}
 use native.Mathlib.Omega.{arith}
 use Rattle.stream.specs.Answers.{sent}
@@ -35,10 +35,8 @@ pub onward-spec : {M : Type 1} → statement M
 onward-spec =
     tie.close
     (tie.spec
-    (λ c κs. search needs)
-    (λ c κs. search needs)
+    (λ c κs. search needs) (λ c κs. search needs)
     send-requires
-    (λ c κs. search needs)
-    (λ c. search needs)
+    (λ c κs. search needs) (λ c. search needs)
     returns
     returns-2)

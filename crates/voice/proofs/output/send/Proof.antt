@@ -1,5 +1,5 @@
 -- `voice::output::send` meets its contract: what `put` answers is whether the words fit. Assumes nothing.
-use mathlib.Core.Path.{_≡_, sym, _∙_}
+use mathlib.Core.Path.{sym, _∙_}
 use Prim.Native.Nat.{_-_}
 use denote.Ref.{now}
 use native.Mathlib.Omega.{arith}
@@ -34,12 +34,9 @@ pub send-spec : {M : Type 1} → statement M
 send-spec =
     tie.close
     (tie.spec
-    (λ c κs. search needs)
-    (λ c. search needs)
+    (λ c κs. search needs) (λ c. search needs)
     add-report-2
-    (λ c κs. search needs)
-    (λ c κs. search needs)
-    (λ c. search needs)
+    (λ c κs. search needs) (λ c κs. search needs) (λ c. search needs)
     returns
     (λ c. search needs)
     returns-2)

@@ -1,6 +1,6 @@
 -- `voice::upward::speak_up` meets its contract: soundness is asked before the message acts.
 -- Assumes nothing.
-use mathlib.Core.Path.{_≡_, sym, _∙_}
+use mathlib.Core.Path.{sym, _∙_}
 use denote.Ref.{now}
 use Rattle.voice.proofs.TurnLaws.{speaks-sound, speaks-unsound}
 use borrow.Author.Needs.{needs}
@@ -22,10 +22,6 @@ pub speak-up-spec : {M : Type 1} → statement M
 speak-up-spec =
     tie.close
     (tie.spec
-    (λ c κs. search needs)
-    (λ c κs. search needs)
-    (λ c κs. search needs)
-    (λ c κs. search needs)
-    (λ c. search needs)
+    (λ c κs. search needs) (λ c κs. search needs) (λ c κs. search needs) (λ c κs. search needs) (λ c. search needs)
     returns
     returns-2)

@@ -1,11 +1,9 @@
 -- `voice::upward::up` meets its contract: the word says whether the packet is a MIDI 1.0 voice message, and then it is the whole packet.
 -- Assumes nothing.
-use mathlib.Core.Path.{_≡_, sym, ap, subst, _∙_}
-use mathlib.Core.List.{List}
-use Prim.Native.Nat.{ℕ}
+use mathlib.Core.Path.{sym, ap, _∙_}
 use denote.Ref.{now}
 use native.Mathlib.Omega.{arith}
-use lib.ListN.{drop, getD, length}
+use lib.ListN.{drop}
 use Rattle.ump.specs.Word.{messageType}
 use Rattle.voice.proofs.TurnLaws.{next-few, next-fits, onward-turn, other-packet, voice-inside, voice-turn}
 use borrow.Author.Needs.{needs}
@@ -43,13 +41,11 @@ pub up-spec : {M : Type 1} → statement M
 up-spec =
     tie.close
     (tie.spec
-    (λ c κs. search needs)
-    (λ c κs. search needs)
+    (λ c κs. search needs) (λ c κs. search needs)
     voice-up-requires
     (λ c κs. search needs)
     onward-requires
-    (λ c κs. search needs)
-    (λ c. search needs)
+    (λ c κs. search needs) (λ c. search needs)
     returns
     (λ c. search needs)
     returns-2)

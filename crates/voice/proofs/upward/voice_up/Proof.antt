@@ -1,6 +1,6 @@
 -- `voice::upward::voice_up` meets its contract: the check of its one word decides between the message and a refusal.
 -- Assumes nothing.
-use mathlib.Core.Path.{_≡_, sym, ap, _∙_}
+use mathlib.Core.Path.{sym, ap, _∙_}
 use denote.Ref.{now}
 use Rattle.screen.specs.declared.Screened.{Screened}
 use Rattle.screen.specs.Screen.{checkVoice1}
@@ -27,10 +27,6 @@ pub voice-up-spec : {M : Type 1} → statement M
 voice-up-spec =
     tie.close
     (tie.spec
-    (λ c κs. search needs)
-    (λ c κs. search needs)
-    (λ c κs. search needs)
-    (λ c κs. search needs)
-    (λ c. search needs)
+    (λ c κs. search needs) (λ c κs. search needs) (λ c κs. search needs) (λ c κs. search needs) (λ c. search needs)
     returns
     returns-2)
