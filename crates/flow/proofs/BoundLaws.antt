@@ -48,7 +48,7 @@ up-reads room t ws d =
     reads-most (runUp room t ws) (length ws) d
     (choose (λ (r : Ran (ℕ × List Record)). r .read ≤ length ws) (eqb (length t) wholeTable) (λ _. words-read _ _ ws) (λ _. omega arith))
 
-pub lines-read : (room : ℕ) (t : List Record) (ws : List ℕ) (d : Done) → d ≡ reported (runLines room t ws) → d .read ≤ length ws
+lines-read : (room : ℕ) (t : List Record) (ws : List ℕ) (d : Done) → d ≡ reported (runLines room t ws) → d .read ≤ length ws
 unfolding runLines
 lines-read room t ws d =
     reads-most (runLines room t ws) (length ws) d
@@ -59,7 +59,7 @@ unfolding runDown
 down-reads room ws d = reads-most (runDown room ws) (length ws) d (words-read _ _ ws)
 
 -- what an output of the same length holds was room for
-pub writes-most : {T : Type 0} (r : Ran T) (out out′ : List ℕ) (d : Done)
+writes-most : {T : Type 0} (r : Ran T) (out out′ : List ℕ) (d : Done)
     → d ≡ reported r → out′ ≡ atStart (r .sends) out → length out′ ≡ length out → d .written ≤ length out′
 writes-most r out out′ d e f l =
     omega (
@@ -69,3 +69,18 @@ writes-most r out out′ d e f l =
       length-append (r .sends) (drop (length (r .sends)) out),
       length-drop (length (r .sends)) out,
     )
+
+-- both, of each run
+module _ (room : ℕ) (t : List Record) (ws out out′ : List ℕ) (d : Done) (same : length out′ ≡ length out) where
+  abbrev Bounded : Type 0
+  Bounded = (d .read ≤ length ws) × (d .written ≤ length out′)
+
+  pub up-bounds : d ≡ reported (runUp room t ws) → out′ ≡ atStart (runUp room t ws .sends) out → Bounded
+  up-bounds e f = (up-reads room t ws d e, writes-most (runUp room t ws) out out′ d e f same)
+
+  pub lines-bounds : d ≡ reported (runLines room t ws) → out′ ≡ atStart (runLines room t ws .sends) out → Bounded
+  lines-bounds e f = (lines-read room t ws d e, writes-most (runLines room t ws) out out′ d e f same)
+
+pub down-bounds : (room : ℕ) (ws out out′ : List ℕ) (d : Done) → length out′ ≡ length out → d ≡ reported (runDown room ws)
+    → out′ ≡ atStart (runDown room ws .sends) out → (d .read ≤ length ws) × (d .written ≤ length out′)
+down-bounds room ws out out′ d l e f = (down-reads room ws d e, writes-most (runDown room ws) out out′ d e f l)
