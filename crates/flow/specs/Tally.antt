@@ -9,7 +9,8 @@ use Rattle.stream.specs.Call.{answerOf}
 use Rattle.screen.specs.Screen.{screen}
 use Rattle.voice.specs.Packet.{callDown}
 
--- The answer of the packet that stands first in some words. Going up only the screening refuses, and 0 stands for the rest.
+-- The answer of the packet that stands first in some words. Going up only the screening refuses, and 0 stands for all
+-- else.
 abbrev pub answerUp : List ℕ → ℕ
 answerUp s = screen voice2 (packet s) .answer
 

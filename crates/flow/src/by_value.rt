@@ -22,8 +22,8 @@ pub(crate) fn run_by_value(table: Table, words: &[u32], out: &mut [u32]) -> Tabl
         ≡ reported (runUp (length (now (out .entry))) (table .records) (now (words .entry))) ⌝ }
     ensures table { λ r. ⌜ r .table .records
         ≡ tableAfter (runUp (length (now (out .entry))) (table .records) (now (words .entry))) ⌝ }
-    ensures output { λ _. ⌜ now (out .exit)
-        ≡ atStart (runUp (length (now (out .entry))) (table .records) (now (words .entry)) .sends) (now (out .entry)) ⌝ }
+    ensures output { λ _. ⌜ now (out .exit) ≡ atStart
+        (runUp (length (now (out .entry))) (table .records) (now (words .entry)) .sends) (now (out .entry)) ⌝ }
 {
     let mut records = table.records;
     let mut read: usize = 0;

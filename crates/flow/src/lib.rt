@@ -56,8 +56,8 @@ pub fn up_some(table: Table, words: &[u32], out: &mut [u32]) -> TableReportAndCo
     ensures table { λ r. ⌜ r .table .records
         ≡ tableAfter (runUp (length (now (out .entry))) (table .records) (now (words .entry))) ⌝ }
     ensures counts { λ r. ⌜ r .counts ≡ tallyUp (take (r .done .read) (now (words .entry))) ⌝ }
-    ensures output { λ _. ⌜ now (out .exit)
-        ≡ atStart (runUp (length (now (out .entry))) (table .records) (now (words .entry)) .sends) (now (out .entry)) ⌝ }
+    ensures output { λ _. ⌜ now (out .exit) ≡ atStart
+        (runUp (length (now (out .entry))) (table .records) (now (words .entry)) .sends) (now (out .entry)) ⌝ }
 {
     let ran = run_by_value(table, words, out);
     let table = ran.table;
