@@ -1,30 +1,40 @@
 // Standard input to standard output, a buffer at a time: what the programs listing, up and down do.
 //
 // A packet that straddles two reads is not cut, and input of any length is taken. What a buffer comes
-// to is said by the contracts of flow and text. Here no contract can say what is read or written, so
+// to is said by the contracts of flow and wire. Here no contract can say what is read or written, so
 // these functions are proved to be safe and to end.
-mod report;
+mod summary;
 
 use flow::Table;
 use libc::STDIN_FILENO;
 use libc::STDOUT_FILENO;
-use report::Totals;
-use voice::Done;
-use voice::NO_ROOM;
+use stream::Done;
+use stream::NO_ROOM;
+use summary::Totals;
 ghost use mathlib.Core.Path.{_≡_};
 ghost use Prim.Native.Nat.{_≤_};
 ghost use lib.ListN.{length};
 
-// What is done with the packets.
-enum Kind {
-    Listing,
+// The bytes of input that are held at once, and the words in them.
+const INPUT_BYTES: usize = 0x8000;
+
+const INPUT_WORDS: usize = 0x2000;
+
+// No packet sends more than two words for each of its own.
+const OUTPUT_WORDS: usize = 0x4000;
+
+const OUTPUT_BYTES: usize = 0x10000;
+
+// What becomes of the packets.
+enum Program {
+    Lines,
     Up,
     Down,
 }
 
 // What goes on from one turn to the next. The bytes that are left stand at the front of the input.
-// Where packets among them wait for room in the output, they are treated before more is read.
-struct State {
+// Where packets among them wait for room in the output, they come before more is read.
+struct FilterState {
     table: Table,
     totals: Totals,
     left: usize,
@@ -34,14 +44,14 @@ struct State {
 }
 
 // The bytes that stand in the input after a read.
-struct Got {
+struct Intake {
     have: usize,
     ended: bool,
     failed: bool,
 }
 
 // What the packets of some words came to: the words read, and the bytes to write.
-struct Treated {
+struct Translated {
     table: Table,
     totals: Totals,
     answer: u32,
@@ -51,12 +61,12 @@ struct Treated {
 
 // Reads after the bytes that are left, unless packets among them wait. Only 0 is the end of the
 // input, and a read that a signal interrupts is no failure.
-fn read_more(bytes: &mut [u8], left: usize, waits: bool) -> Got
+fn read_more(bytes: &mut [u8], left: usize, waits: bool) -> Intake
     requires { ⌜ left ≤ length (now bytes) ⌝ }
     ensures { λ r. ⌜ r .have ≤ length (now (bytes .exit)) ⌝ }
 {
     if waits {
-        return Got {
+        return Intake {
             have: left,
             ended: false,
             failed: false,
@@ -68,14 +78,14 @@ fn read_more(bytes: &mut [u8], left: usize, waits: bool) -> Got
         if failed {
             os::fail(b"standard input");
         }
-        return Got {
+        return Intake {
             have: left,
             ended: false,
             failed,
         };
     }
     let n = io::count(got, &bytes[left..]);
-    Got {
+    Intake {
         have: left + n,
         ended: n == 0,
         failed: false,
@@ -90,14 +100,15 @@ fn sent_as_bytes(
     counts: [u64; 8],
     sent: &[u32],
     text: &mut [u8],
-) -> Treated
+) -> Translated
     requires { ⌜ done .written ≤ length (now sent) ⌝ }
-    ensures { λ r. ⌜ (r .read ≡ done .read) × (r .bytes ≤ length (now (text .exit))) ⌝ }
+    ensures read { λ r. ⌜ r .read ≡ done .read ⌝ }
+    ensures bytes { λ r. ⌜ r .bytes ≤ length (now (text .exit)) ⌝ }
 {
     let n = done.written;
     let bytes = wire::bytes_of(&sent[..n], text);
     let totals = totals.and(done, counts);
-    Treated {
+    Translated {
         table,
         totals,
         answer: done.answer,
@@ -107,22 +118,23 @@ fn sent_as_bytes(
 }
 
 // The packets of the words, and what they come to at the start of the text.
-fn treat(
-    kind: Kind,
+fn translate(
+    program: Program,
     table: Table,
     totals: Totals,
     words: &[u32],
     sent: &mut [u32],
     text: &mut [u8],
-) -> Treated
-    ensures { λ r. ⌜ (r .read ≤ length (now (words .entry))) × (r .bytes ≤ length (now (text .exit))) ⌝ }
+) -> Translated
+    ensures read { λ r. ⌜ r .read ≤ length (now (words .entry)) ⌝ }
+    ensures bytes { λ r. ⌜ r .bytes ≤ length (now (text .exit)) ⌝ }
 {
-    match kind {
-        Kind::Listing => {
-            let listing = flow::list_some(table, words, text);
-            let table = listing.table;
-            let done = listing.done;
-            Treated {
+    match program {
+        Program::Lines => {
+            let lines = flow::list_some(table, words, text);
+            let table = lines.table;
+            let done = lines.done;
+            Translated {
                 table,
                 totals,
                 answer: done.answer,
@@ -130,13 +142,13 @@ fn treat(
                 bytes: done.written,
             }
         }
-        Kind::Up => {
+        Program::Up => {
             let ran = flow::up_some(table, words, sent);
             let table = ran.table;
             let counts = ran.counts;
             sent_as_bytes(table, totals, ran.done, counts, sent, text)
         }
-        Kind::Down => {
+        Program::Down => {
             let ran = flow::down_some(words, sent);
             let counts = ran.counts;
             sent_as_bytes(table, totals, ran.done, counts, sent, text)
@@ -155,15 +167,15 @@ fn write_fails(text: &[u8], n: usize) -> bool
     true
 }
 
-// Reads once, treats the whole packets, writes what they come to and keeps the bytes that are left.
+// Reads once, translates the whole packets, writes what they come to and keeps the bytes that are left.
 fn turn(
-    kind: Kind,
-    s: State,
+    program: Program,
+    s: FilterState,
     bytes: &mut [u8],
     words: &mut [u32],
     sent: &mut [u32],
     text: &mut [u8],
-) -> State
+) -> FilterState
     requires { ⌜ s .left ≤ length (now bytes) ⌝ }
     ensures { λ r. ⌜ r .left ≤ length (now (bytes .exit)) ⌝ }
 {
@@ -172,16 +184,16 @@ fn turn(
     let n = wire::words_of(&bytes[..have], words);
     let table = s.table;
     let totals = s.totals;
-    let treated = treat(kind, table, totals, &words[..n], sent, text);
-    let failed = write_fails(text, treated.bytes);
-    let left = wire::carry(bytes, 4 * treated.read, have);
-    let table = treated.table;
-    let totals = treated.totals;
-    State {
+    let translated = translate(program, table, totals, &words[..n], sent, text);
+    let failed = write_fails(text, translated.bytes);
+    let left = wire::carry(bytes, 4 * translated.read, have);
+    let table = translated.table;
+    let totals = translated.totals;
+    FilterState {
         table,
         totals,
         left,
-        waits: treated.answer == NO_ROOM,
+        waits: translated.answer == NO_ROOM,
         ended: got.ended,
         failed: got.failed | failed,
     }
@@ -189,15 +201,15 @@ fn turn(
 
 // A proved loop has to end, and nothing says that the input does: the turns are counted down from a
 // number that no input uses up.
-fn run(kind: Kind) -> State {
-    let mut bytes = [0u8; 32768];
-    let mut words = [0u32; 8192];
-    let mut sent = [0u32; 16384];
-    let mut text = [0u8; 65536];
+fn turns(program: Program) -> FilterState {
+    let mut bytes = [0u8; INPUT_BYTES];
+    let mut words = [0u32; INPUT_WORDS];
+    let mut sent = [0u32; OUTPUT_WORDS];
+    let mut text = [0u8; OUTPUT_BYTES];
     let records = channel::fresh_table();
     let table = Table { records };
-    let totals = Totals::none();
-    let mut s = State {
+    let totals = Totals::zero();
+    let mut s = FilterState {
         table,
         totals,
         left: 0,
@@ -205,23 +217,23 @@ fn run(kind: Kind) -> State {
         ended: false,
         failed: false,
     };
-    let mut turns = u64::MAX;
-    while turns > 0 && !(s.ended | s.failed) {
-        s = turn(kind, s, &mut bytes, &mut words, &mut sent, &mut text);
-        turns -= 1;
+    let mut more = u64::MAX;
+    while more > 0 && !(s.ended | s.failed) {
+        s = turn(program, s, &mut bytes, &mut words, &mut sent, &mut text);
+        more -= 1;
     }
     s
 }
 
 // Whether the input ended within a packet.
-fn is_cut(s: State) -> bool {
+fn is_cut(s: FilterState) -> bool {
     s.ended & (0 < s.left)
 }
 
 // A line for each packet of standard input going up, from a fresh table, and a last one for a cut
 // packet.
 pub fn listing() {
-    let s = run(Kind::Listing);
+    let s = turns(Program::Lines);
     if is_cut(s) {
         write_fails(b"3 0\n", 4);
     }
@@ -229,14 +241,14 @@ pub fn listing() {
 
 // The packets of standard input up, from a fresh table.
 pub fn up() {
-    let s = run(Kind::Up);
+    let s = turns(Program::Up);
     let totals = s.totals;
-    report::report(b"up", totals, is_cut(s));
+    summary::say(b"up", totals, is_cut(s));
 }
 
 // The packets of standard input down.
 pub fn down() {
-    let s = run(Kind::Down);
+    let s = turns(Program::Down);
     let totals = s.totals;
-    report::report(b"down", totals, is_cut(s));
+    summary::say(b"down", totals, is_cut(s));
 }

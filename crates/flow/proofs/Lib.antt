@@ -1,3 +1,4 @@
-pub mod TallyLaws
-pub mod CallLaws
+pub mod BoundLaws
+pub mod TableLoop
 pub mod ListLaws
+pub mod TallyLaws

@@ -1,124 +1,175 @@
--- The line of a call: what one packet's line makes of the text, and that the step that lists looks at its own packet alone, goes on only
--- with a whole one and stores the record as the call with the table does. Assumes nothing.
+-- The line of a call: what one packet's line makes of the text; and the step that lists looks at its own packet alone, goes
+-- on only with a whole one, and stores the record as the call with the table does. Assumes nothing.
 use Prim.Native.Nat.{ℕ, _+_, _-_, _≤_}
 use mathlib.Core.Path.{_≡_, refl, sym, ap, _∙_}
 use mathlib.Core.Bool.{Bool, true, false, cond}
 use mathlib.Core.List.{List, _∷_, _++_}
 use native.Mathlib.Omega.{arith}
-use native.Mathlib.Nat.{zero-add}
+use native.Mathlib.Nat.{add-zero, zero-add}
 use lib.Dec.{leb}
 use lib.ListN.{drop, getD, length, length-append, replicate, take}
-use lib.Seq.{sets, sets-eq, take-at}
+use lib.Seq.{sets-eq, take-at}
 use borrow.Author.Tests.{le-leb, leb-true}
+use Rattle.ground.proofs.Cases.{by-bool, choose}
+use Rattle.ground.proofs.StoreLaws.{written-none}
 use Rattle.ump.specs.Packet.{packet, size}
-use Rattle.ump.specs.Types.{typed}
 use Rattle.ump.proofs.PacketLaws.{at-none, packet-four, packet-near}
+use Rattle.stream.specs.declared.Done.{Done}
+use Rattle.stream.specs.Answers.{cutPacket, noRoom, sent, takenIn}
+use Rattle.stream.specs.Call.{Call, answerOf, fit, leftOf, refused, sentOf, stopped, went}
+use Rattle.stream.specs.Report.{counting}
+use Rattle.stream.proofs.RunLoop.{Inside}
+use Rattle.screen.specs.Screen.{screen, screened}
 use Rattle.channel.specs.declared.Record.{Record}
-use Rattle.channel.specs.Record.{empty}
-use Rattle.voice.specs.declared.Upped.{Upped}
-use Rattle.voice.specs.Call.{Call, fit, sentOf, stopped, went}
-use Rattle.voice.specs.Output.{upped, written}
-use Rattle.voice.specs.Packet.{packetUp}
-use Rattle.voice.proofs.ActLaws.{few-up}
-use Rattle.voice.proofs.OutputLaws.{written-none}
-use Rattle.text.specs.Lines.{lineOf}
+use Rattle.channel.specs.Record.{empty, wholeTable}
+use Rattle.voice.specs.declared.RecordAndReport.{RecordAndReport}
+use Rattle.voice.specs.Packet.{callUp, changesAt, packetUp}
+use Rattle.voice.specs.Turn.{changedBy, next, outputOf, turned}
+use Rattle.voice.proofs.PacketLaws.{few-up, refused-up, unchanged-up}
+use Rattle.text.specs.Lines.{lineOf, placeAfter, withRow}
 use Rattle.text.proofs.LineLaws.{line-length}
-use Rattle.quernbrae.specs.Table.{stored, tableUp}
-use Rattle.quernbrae.proofs.RunLoop.{Inside}
-use Rattle.quernbrae.proofs.TableLaws.{table-inside, table-near}
-use Rattle.flow.specs.Listing.{listUp, listed}
-use Rattle.flow.proofs.CallLaws.{placeAt, table-at}
+use Rattle.table.specs.Table.{stored, tableUp}
+use Rattle.table.proofs.TableLaws.{placeAt, table-at, table-inside, table-near}
+use Rattle.flow.specs.Listing.{lineUp, listUp, listed}
 
--- what a call up with a record says of a packet, in an output of four words
+-- the four words that a call is made into, before it
 abbrev pub four₀ : List ℕ
 four₀ = replicate 4 0
 
-abbrev pub Calls : ℕ → Record → Call Record → Upped → List ℕ → Type 0
-Calls n r c u four = (u ≡ upped 4 n r (fit 4 c)) × (four ≡ written 0 (sentOf (fit 4 c)) four₀)
+module _ (d : Done) (p text : List ℕ) (r : Record) (x : RecordAndReport) (four : List ℕ) where
+  abbrev may : Bool
+  may = changesAt p
 
--- and what its line makes of the text from a place on
-abbrev pub Lists : ℕ → ℕ → List ℕ → Record → Call Record → Upped → List ℕ → Type 0
-Lists n to text r c u text′ =
-    (u ≡ upped (length text - to) n r (fit (length text - to) (listed n c))) × (text′ ≡ written to (sentOf (fit (length text - to) (listed n c))) text)
+  -- what the call c at the packet p says of itself and of the four words, and what its line then makes of the text
+  abbrev pub Calls : Call Record → Type 0
+  Calls c = (x ≡ turned (counting sent (d .read) 0) p four₀ r may c) × (four ≡ outputOf (counting sent (d .read) 0) four₀ c)
 
--- a call that goes on: its words stand in the four
-went-four : (n : ℕ) (r : Record) (a : ℕ) (ws : List ℕ) (v : Record) (u : Upped) (four : List ℕ) → length ws ≤ 4 → Calls n r (went a ws v) u four
-    → (u ≡ record { after = v; done = record { answer = a; read = n; written = length ws } }) × (four ≡ ws ++ drop (length ws) four₀)
-went-four n r a ws v u four f e = rw (le-leb (length ws) 4 f, zero-add (length ws)) at e
+  abbrev pub Lists : Call Record → RecordAndReport → List ℕ → Type 0
+  Lists c y text′ = (y ≡ turned d p text r may (listed p c)) × (text′ ≡ outputOf d text (listed p c))
 
-pub four-words : (n : ℕ) (r : Record) (c : Call Record) (u : Upped) (four : List ℕ) → length (sentOf c) ≤ 4 → Calls n r c u four
-    → (u .done .written ≤ length four) × (u .done .written ≡ length (take (u .done .written) four))
-four-words n r (stopped a) u four f e = rw (e .0, e .1) (omega arith, refl)
-four-words n r (went a ws v) u four f e =
-    let w = went-four n r a ws v u four f e in
-    rw (w .0, w .1) (omega (arith, length-append ws (drop (length ws) four₀)), sym (ap length (take-at ws (drop (length ws) four₀) (length ws) refl)))
+  abbrev pub Told : ℕ → RecordAndReport
+  Told n = record { after = x .after; changes = x .changes; done = counting (x .done .answer) (x .done .read) n }
 
--- a call that stops has no line
-pub line-none : (n to : ℕ) (text : List ℕ) (r : Record) (c : Call Record) (u : Upped) (four : List ℕ) → length (sentOf c) ≤ 4 → (n ≡ 0 → c ≡ stopped 3) → Calls n r c u four
-    → u .done .read ≡ 0 → Lists n to text r c u text
-line-none n to text r (stopped a) u four f z e h = (e .0, sym (written-none to text))
-line-none n to text r (went a ws v) u four f z e h =
-    let w = went-four n r a ws v u four f e in
-    let p = z (sym (ap (λ (x : Upped). x .done .read) (w .0)) ∙ h) in
-    absurd (let y : _≡_ {A = ℕ} 0 1 = cc p in omega arith)
+  -- what is then told: no room for the line, or the place after it
+  abbrev pub Lined : Call Record → ℕ → List ℕ → Type 0
+  Lined c end text′ =
+      (end ≡ d .written → Lists c (record { after = r; changes = false; done = counting noRoom (d .read) (d .written) }) text′)
+      × ((end ≡ d .written → ⊥) → Lists c (Told end) text′)
 
--- a call that goes on has its line, where there is room for it
-pub line-some : (n to : ℕ) (text text′ : List ℕ) (r : Record) (c : Call Record) (u : Upped) (four : List ℕ) (next : ℕ) → length (sentOf c) ≤ 4 → Calls n r c u four
-    → (u .done .read ≡ 0 → ⊥)
-    → (next ≡ cond (leb (length (lineOf (u .done .answer) (u .done .read) (take (u .done .written) four))) (length text - to)) (to + length (lineOf (u .done .answer) (u .done .read) (take (u .done .written) four))) to)
-    × (text′ ≡ cond (leb (length (lineOf (u .done .answer) (u .done .read) (take (u .done .written) four))) (length text - to)) (sets text to (lineOf (u .done .answer) (u .done .read) (take (u .done .written) four))) text)
-    → (next ≡ to → Lists n to text r c (record { after = r; done = record { answer = 9; read = 0; written = 0 } }) text′)
-    × ((next ≡ to → ⊥) → (to ≤ next) × Lists n to text r c (record { after = u .after; done = record { answer = u .done .answer; read = u .done .read; written = next - to } }) text′)
-line-some n to text text′ r (stopped a) u four next f e h l = absurd (h (ap (λ (x : Upped). x .done .read) (e .0)))
-line-some n to text text′ r (went a ws v) u four next f e h l =
-    let w = went-four n r a ws v u four f e in
-    let m = rw (w .0, w .1, take-at ws (drop (length ws) four₀) (length ws) refl) at l in
-    rw (w .0) (go (leb (length (lineOf a n ws)) (length text - to)) refl m)
-  where
-    line : List ℕ
-    line = lineOf a n ws
+  -- a call that goes on: its words stand in the four
+  went-four : (a : ℕ) (ws : List ℕ) (v : Record) → length ws ≤ 4 → Calls (went a ws v)
+      → (x ≡ record { after = v; changes = changedBy may (went a ws v); done = counting a (d .read + length p) (length ws) })
+      × (four ≡ ws ++ drop (length ws) four₀)
+  went-four a ws v f e = rw (le-leb (length ws) 4 f, zero-add (length ws)) at e
 
-    room : ℕ
-    room = length text - to
+  pub four-words : (c : Call Record) → length (sentOf c) ≤ 4 → Calls c
+      → (d .read ≤ x .done .read) × (x .done .written ≤ length four) × (x .done .written ≡ length (take (x .done .written) four))
+  four-words (stopped a) f e = rw (e .0, e .1) (omega arith, omega arith, refl)
+  four-words (went a ws v) f e =
+      let w = went-four a ws v f e in
+      rw (w .0, w .1) (
+        omega arith,
+        omega (arith, length-append ws (drop (length ws) four₀)),
+        sym (ap length (take-at ws (drop (length ws) four₀) (length ws) refl)),
+      )
 
-    go : (b : Bool) → leb (length line) room ≡ b → (next ≡ cond b (to + length line) to) × (text′ ≡ cond b (sets text to line) text)
-        → (next ≡ to → Lists n to text r (went a ws v) (record { after = r; done = record { answer = 9; read = 0; written = 0 } }) text′)
-        × ((next ≡ to → ⊥) → (to ≤ next) × Lists n to text r (went a ws v) (record { after = v; done = record { answer = a; read = n; written = next - to } }) text′)
-    go true b m =
-        let p = leb-true (length line) room b in
-        let q = line-length a n ws in
-        let d : next - to ≡ length line = omega (arith, m .0) in (
-          λ z. absurd (omega (arith, m .0, z, q)),
-          λ z. (omega (arith, m .0), rw (b, d) (refl, m .1 ∙ sets-eq line text to (omega (arith, p, q)))),
-        )
-    go false b m = (λ z. rw b (refl, m .1 ∙ sym (written-none to text)), λ z. absurd (z (m .0)))
+  -- a call that stops has no line
+  pub line-none : (c : Call Record) → length (sentOf c) ≤ 4 → (length p ≡ 0 → c ≡ stopped cutPacket) → Calls c
+      → x .done .read ≡ d .read → Lists c (Told (d .written)) text
+  line-none (stopped a) f z e h = (rw (e .0, add-zero (d .written)), sym (written-none (d .written) text))
+  line-none (went a ws v) f z e h =
+      let g = ap (λ (y : RecordAndReport). y .done .read) (went-four a ws v f e .0) in
+      let k : length p ≡ 0 = omega arith in
+      let q = z k in
+      absurd (let y : _≡_ {A = ℕ} 0 1 = cc q in omega arith)
+
+  -- a call that goes on has its line, where there is room for it
+  pub line-some : (c : Call Record) (end : ℕ) (text′ : List ℕ) → length (sentOf c) ≤ 4 → Calls c → (x .done .read ≡ d .read → ⊥)
+      → let row = lineOf (x .done .answer) (x .done .read - d .read) (take (x .done .written) four) in
+      (end ≡ placeAfter text (d .written) row) × (text′ ≡ withRow text (d .written) row)
+      → Lined c end text′
+  line-some (stopped a) end text′ f e h l =
+      absurd (h (ap (λ (y : RecordAndReport). y .done .read) (e .0) ∙ add-zero (d .read)))
+  line-some (went a ws v) end text′ f e h l =
+      let w = went-four a ws v f e in
+      let n : d .read + length p - d .read ≡ length p = omega arith in
+      rw (w .0) (go (leb (length line) room) refl (rw (w .0, w .1, take-at ws (drop (length ws) four₀) (length ws) refl, n) at l))
+    where
+      line : List ℕ
+      line = lineOf a (length p) ws
+
+      to : ℕ
+      to = d .written
+
+      room : ℕ
+      room = length text - to
+
+      go : (b : Bool) → leb (length line) room ≡ b → (end ≡ cond b (to + length line) to) × (text′ ≡ withRow text to line)
+          → (end ≡ to → Lists (went a ws v) (record { after = r; changes = false; done = counting noRoom (d .read) to }) text′)
+          × ((end ≡ to → ⊥) → Lists (went a ws v) (record { after = v; changes = changedBy may (went a ws v); done = counting a (d .read + length p) end }) text′)
+      go true b m =
+          let h = leb-true (length line) room b in
+          let q = line-length a (length p) ws in
+          let k = rw b at (m .1) in (
+            λ z. absurd (omega (arith, m .0, z, q)),
+            λ z. rw b (rw (m .0), k ∙ sets-eq line text to (omega (arith, h, q))),
+          )
+      go false b m =
+          let k = rw b at (m .1) in
+          (λ z. rw b (rw (add-zero (d .read), add-zero to), k ∙ sym (written-none to text)), λ z. absurd (z (m .0)))
+
+-- the call that the code makes after the report q
+pub calls-at : (ws : List ℕ) (d q : Done) (text : List ℕ) (r : Record) (x : RecordAndReport) (four : List ℕ)
+    → q ≡ counting sent (d .read) 0
+    → (x ≡ turned q (next ws q) four₀ r (changesAt (next ws q)) (packetUp r (next ws q)))
+    × (four ≡ outputOf q four₀ (packetUp r (next ws q)))
+    → Calls d (next ws d) text r x four (packetUp r (next ws d))
+calls-at ws d q text r x four e h = rw e at h
 
 -- ---- the step
 
 pub up-few : (r : Record) (s : List ℕ) → length (sentOf (packetUp r (packet s))) ≤ 4
 up-few r s = few-up r (packet s) (packet-four s)
 
-pub up-cut : (r : Record) (p : List ℕ) → length p ≡ 0 → packetUp r p ≡ stopped 3
-unfolding packetUp typed
+pub up-cut : (r : Record) (p : List ℕ) → length p ≡ 0 → packetUp r p ≡ stopped cutPacket
+unfolding packetUp screen screened refused
 up-cut r p h = rw (at-none p h)
 
 pub list-near : (t : List Record) (w : ℕ) (s : List ℕ) → listUp t (take (size w) (w ∷ s)) ≡ listUp t (w ∷ s)
 unfolding listUp
 list-near t w s = rw (packet-near w s, table-near t w s)
 
-listed-inside : {T : Type 0} (j k n l : ℕ) (c : Call T) → Inside k n l c → Inside k n l (listed j c)
-listed-inside j k n l (went a ws u) h = h
-listed-inside j k n l (stopped a) h = tt
+listed-inside : {T : Type 0} (p s : List ℕ) (c : Call T) → Inside s c → Inside s (listed p c)
+listed-inside p s (went a ws u) h = h
+listed-inside p s (stopped a) h = tt
 
-pub list-inside : (t : List Record) (w : ℕ) (s : List ℕ) → Inside (length (packet (w ∷ s))) (size w) (length (w ∷ s)) (listUp t (w ∷ s))
+pub list-inside : (t : List Record) (w : ℕ) (s : List ℕ) → Inside (w ∷ s) (listUp t (w ∷ s))
 unfolding listUp
-list-inside t w s = listed-inside _ _ _ _ (tableUp t (w ∷ s)) (table-inside t w s)
+list-inside t w s = listed-inside (packet (w ∷ s)) (w ∷ s) (tableUp t (w ∷ s)) (table-inside t w s)
 
-listed-stored : (n : ℕ) (t : List Record) (k : ℕ) (c : Call Record) → listed n (stored t k c) ≡ stored t k (listed n c)
-listed-stored n t k (went a ws r) = refl
-listed-stored n t k (stopped a) = refl
+listed-stored : (p : List ℕ) (t : List Record) (k : ℕ) (c : Call Record) → listed p (stored t k c) ≡ stored t k (listed p c)
+listed-stored p t k (went a ws r) = refl
+listed-stored p t k (stopped a) = refl
 
-pub list-at : (ws : List ℕ) (t : List Record) (i : ℕ) → length t ≡ 256
-    → listUp t (drop i ws) ≡ stored t (placeAt ws i) (listed (length (packet (drop i ws))) (packetUp (getD t (placeAt ws i) empty) (packet (drop i ws))))
+pub up-own : (ws : List ℕ) (t : List Record) (i : ℕ) → length t ≡ wholeTable
+    → tableUp t (drop i ws) ≡ stored t (placeAt ws i) (packetUp (getD t (placeAt ws i) empty) (packet (drop i ws)))
+unfolding callUp
+up-own ws t i l = table-at ws t i l
+
+pub list-own : (ws : List ℕ) (t : List Record) (i : ℕ) → length t ≡ wholeTable
+    → listUp t (drop i ws) ≡ stored t (placeAt ws i) (lineUp (getD t (placeAt ws i) empty) (packet (drop i ws)))
 unfolding listUp
-list-at ws t i l = rw (table-at ws t i l) (listed-stored _ t (placeAt ws i) (packetUp (getD t (placeAt ws i) empty) (packet (drop i ws))))
+list-own ws t i l = rw (up-own ws t i l) (listed-stored _ t (placeAt ws i) (packetUp (getD t (placeAt ws i) empty) (packet (drop i ws))))
+
+-- a record that is not reported as changed is as it was
+pub list-still : (room : ℕ) (r : Record) (p : List ℕ) → changedBy (changesAt p) (fit room (lineUp r p)) ≡ false
+    → leftOf (room, r) (fit room (lineUp r p)) .1 ≡ r
+list-still room r p = go (packetUp r p) (unchanged-up r p) (refused-up r p)
+  where
+    go : (c : Call Record) → (changesAt p ≡ false → leftOf r c ≡ r) → (leb (answerOf c) takenIn ≡ false → leftOf r c ≡ r)
+        → changedBy (changesAt p) (fit room (listed p c)) ≡ false → leftOf (room, r) (fit room (listed p c)) .1 ≡ r
+    go (stopped a) f g = λ _. refl
+    go (went a ws u) f g =
+        choose (λ (c : Call (ℕ × Record)). changedBy (changesAt p) c ≡ false → leftOf (room, r) c .1 ≡ r)
+        (leb (length (lineOf a (length p) ws)) room)
+        (λ _ h. by-bool (leb a takenIn) (λ e. f (rw e at h)) g) (λ _ _. refl)

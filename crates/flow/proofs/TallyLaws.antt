@@ -1,158 +1,127 @@
--- The answers of a run, counted in a loop that makes a call at each packet. Assumes nothing.
-use Prim.Native.Nat.{ℕ, zero, suc, _+_, _-_, _<_, _≤_}
-use mathlib.Core.Path.{_≡_, refl, sym, ap, _∙_, subst}
+-- The loop that counts: the answers of the packets before a place are counted, and those from there on are left.
+-- Assumes nothing.
+use Prim.Native.Nat.{ℕ, zero, suc, _+_, _<_, _≤_}
+use mathlib.Core.Path.{_≡_, refl, sym, ap, _∙_}
 use mathlib.Core.Bool.{Bool, true, false, cond}
-use mathlib.Core.List.{List, [], _∷_}
+use mathlib.Core.List.{List, [], _∷_, _++_, append-assoc, append-nil, map}
 use native.Mathlib.Omega.{arith}
-use native.Mathlib.Nat.{add-assoc, sub-zero}
-use lib.Dec.{eqb, leb}
-use lib.ListN.{length, length-set, getD, set, take, drop, replicate}
-use lib.Seq.{drop-cons, ext-getD, getD-set-other, getD-set-same}
-use borrow.Author.Tests.{eqb-false, eqb-true}
+use native.Mathlib.Nat.{add-assoc, add-zero, zero-add}
+use lib.Dec.{eqb}
+use lib.ListN.{drop, getD, length, length-append, replicate, set, take}
+use lib.Seq.{drop-cons}
+use borrow.Author.Tests.{le-leb, ne-eqb}
+use Rattle.ground.proofs.Cases.{choose}
+use Rattle.ump.specs.Word.{voice2}
 use Rattle.ump.specs.Packet.{cut, packet, size}
-use Rattle.ump.proofs.PacketLaws.{cut-at, cut-end, size-range}
-use Rattle.voice.specs.Call.{Call, fit, stopped, went, within}
-use Rattle.quernbrae.proofs.RunLoop.{Did, Inside, Runs, turn}
-use Rattle.flow.specs.Tally.{answers, tally, thenAnswers, times}
+use Rattle.ump.proofs.PacketLaws.{cut-at, cut-end, packet-four, packet-near, size-range}
+use Rattle.stream.specs.declared.Done.{Done}
+use Rattle.stream.specs.Answers.{sent}
+use Rattle.stream.specs.Call.{Call, answerOf, fit, sentOf, stopped, went}
+use Rattle.stream.specs.Report.{counting}
+use Rattle.screen.specs.Screen.{screen}
+use Rattle.voice.specs.Packet.{callDown, packetDown}
+use Rattle.voice.specs.Turn.{reportOf}
+use Rattle.voice.proofs.PacketLaws.{few-down}
+use Rattle.flow.specs.Tally.{answerBy, tally, tallyBy, times, zeroToSeven}
 
--- no answer is counted yet
-abbrev pub none : List ℕ
-none = replicate 8 0
+times-after : (n : ℕ) (xs : List ℕ) (a : ℕ) → times n (xs ++ (a ∷ [])) ≡ times n xs + cond (eqb a n) 1 0
+unfolding times
+times-after n [] a = omega arith
+times-after n (x ∷ xs) a = rw (times-after n xs a) (sym (add-assoc (cond (eqb x n) 1 0) (times n xs) (cond (eqb a n) 1 0)))
 
-abbrev pub countedOf : List ℕ → ℕ → List ℕ
-countedOf counts a = set counts a (getD counts a 0 + 1)
+times-most : (n : ℕ) (xs : List ℕ) → times n xs ≤ length xs
+unfolding times
+times-most n [] = omega arith
+times-most n (x ∷ xs) =
+    choose (λ (k : ℕ). k + times n xs ≤ length (x ∷ xs)) (eqb x n) (λ _. omega (arith, times-most n xs)) (λ _. omega (arith, times-most n xs))
 
-counted-at : (counts : List ℕ) (a j : ℕ) → j < length counts → getD (countedOf counts a) j 0 ≡ getD counts j 0 + cond (eqb a j) 1 0
-counted-at counts a j h = go (eqb a j) refl
-  where
-    go : (b : Bool) → eqb a j ≡ b → getD (countedOf counts a) j 0 ≡ getD counts j 0 + cond b 1 0
-    go true e = let s : a ≡ j = eqb-true a j e in rw s (getD-set-same counts j (getD counts j 0 + 1) 0 h)
-    go false e = getD-set-other counts a j (getD counts a 0 + 1) 0 (λ s. eqb-false a j e (sym s)) ∙ omega arith
+-- no count is above the number of answers
+map-most : (f : ℕ → ℕ) (b : ℕ) → ((n : ℕ) → f n ≤ b) → (l : List ℕ) (j : ℕ) → getD (map f l) j 0 ≤ b
+map-most f b h [] j = omega arith
+map-most f b h (x ∷ l) zero = h x
+map-most f b h (x ∷ l) (suc j) = map-most f b h l j
 
--- no count is above b
-abbrev pub Few : List ℕ → ℕ → Type 0
-Few counts b = (j : ℕ) → getD counts j 0 ≤ b
-
-zeros : (n : ℕ) → Few (replicate n 0) 0
-zeros zero j = omega arith
-zeros (suc n) zero = omega arith
-zeros (suc n) (suc j) = zeros n j
-
-pub none-few : Few none 0
-none-few = zeros 8
-
-set-few : (l : List ℕ) (a v b : ℕ) → v ≤ b → Few l b → Few (set l a v) b
-set-few [] a v b p h j = h j
-set-few (x ∷ l) zero v b p h zero = p
-set-few (x ∷ l) zero v b p h (suc j) = h (suc j)
-set-few (x ∷ l) (suc a) v b p h zero = h zero
-set-few (x ∷ l) (suc a) v b p h (suc j) = set-few l a v b p (λ k. h (suc k)) j
-
-pub counted-few : (counts : List ℕ) (a b k : ℕ) → Few counts b → 1 ≤ k → Few (countedOf counts a) (b + k)
-counted-few counts a b k h p = set-few counts a (getD counts a 0 + 1) (b + k) (omega (arith, h a)) (λ j. omega (arith, h j))
-
-tally-at : (given : List ℕ) (j : ℕ) → j < 8 → getD (tally given) j 0 ≡ times j given
+pub tally-most : (xs : List ℕ) (a : ℕ) → getD (tally xs) a 0 ≤ length xs
 unfolding tally
-tally-at given zero h = refl
-tally-at given (suc zero) h = refl
-tally-at given (suc (suc zero)) h = refl
-tally-at given (suc (suc (suc zero))) h = refl
-tally-at given (suc (suc (suc (suc zero)))) h = refl
-tally-at given (suc (suc (suc (suc (suc zero))))) h = refl
-tally-at given (suc (suc (suc (suc (suc (suc zero)))))) h = refl
-tally-at given (suc (suc (suc (suc (suc (suc (suc zero))))))) h = refl
-tally-at given (suc (suc (suc (suc (suc (suc (suc (suc j)))))))) h = absurd (omega arith)
+tally-most xs a = map-most (λ n. times n xs) (length xs) (λ n. times-most n xs) zeroToSeven a
 
--- counts that are right at each number are the tally
-pub tally-is : (counts given : List ℕ) → length counts ≡ 8 → ((j : ℕ) → j < 8 → times j given ≡ getD counts j 0) → counts ≡ tally given
+-- one more answer
+pub tally-more : (xs : List ℕ) (a : ℕ) → set (tally xs) a (getD (tally xs) a 0 + 1) ≡ tally (xs ++ (a ∷ []))
 unfolding tally
-tally-is counts given l h = ext-getD 0 counts (tally given) l (λ j p. let q : j < 8 = omega arith in sym (tally-at given j q ∙ h j q))
-
-module _
-    {T : Type 0}
-    (step : T → List ℕ → Call T)
-    (near : (t : T) (w : ℕ) (s : List ℕ) → step t (take (size w) (w ∷ s)) ≡ step t (w ∷ s))
-    (inside : (t : T) (w : ℕ) (s : List ℕ) → Inside (length (packet (w ∷ s))) (size w) (length (w ∷ s)) (step t (w ∷ s)))
-    (t₀ : T)
-    (a out₀ : List ℕ)
+tally-more xs a = simp times-after (go a)
   where
-    abbrev all : List ℕ
-    all = answers (within step) (length out₀, t₀) (cut a)
+    go : (a : ℕ) → set (tally xs) a (getD (tally xs) a 0 + 1) ≡ map (λ n. times n xs + cond (eqb a n) 1 0) zeroToSeven
+    go zero = simp add-zero
+    go (suc zero) = simp add-zero
+    go (suc (suc zero)) = simp add-zero
+    go (suc (suc (suc zero))) = simp add-zero
+    go (suc (suc (suc (suc zero)))) = simp add-zero
+    go (suc (suc (suc (suc (suc zero))))) = simp add-zero
+    go (suc (suc (suc (suc (suc (suc zero)))))) = simp add-zero
+    go (suc (suc (suc (suc (suc (suc (suc zero))))))) = simp add-zero
+    go (suc (suc (suc (suc (suc (suc (suc (suc a)))))))) =
+        let past : (n : ℕ) → n ≤ 7 → eqb (suc (suc (suc (suc (suc (suc (suc (suc a)))))))) n ≡ false =
+        λ n h. ne-eqb _ n (λ e. omega (arith, e)) in
+        simp (
+          past 0 (omega arith),
+          past 1 (omega arith),
+          past 2 (omega arith),
+          past 3 (omega arith),
+          past 4 (omega arith),
+          past 5 (omega arith),
+          past 6 (omega arith),
+          past 7 (omega arith),
+          add-zero,
+        )
 
-    -- the loop's invariant: what was counted, and then the answers from here, are all
-    pub record Tells (counts : List ℕ) (t : T) (out : List ℕ) (i n : ℕ) : Type 0 where
-      pub long : length counts ≡ 8
-      pub few : Few counts i
-      pub adds : (j : ℕ) → j < 8 → times j all ≡ getD counts j 0 + times j (answers (within step) (length out - n, t) (cut (drop i a)))
+-- the answer at a place is that of the piece that is cut there
+answer-near : (down : Bool) (w : ℕ) (s : List ℕ) → answerBy down (take (size w) (w ∷ s)) ≡ answerBy down (w ∷ s)
+unfolding callDown
+answer-near true w s = ap (λ (p : List ℕ). answerOf (packetDown p)) (packet-near w s)
+answer-near false w s = ap (λ (p : List ℕ). screen voice2 p .answer) (packet-near w s)
 
-    pub begin : Tells none t₀ out₀ 0 0
-    begin = record { long = refl; few = none-few; adds = λ j h. rw (sub-zero (length out₀)) (omega (arith, none-few j)) }
+-- four words are room for whatever a packet becomes
+four-fit : (c : Call (Unit {0})) → length (sentOf c) ≤ 4 → answerOf (fit 4 c) ≡ answerOf c
+four-fit (went a ws u) h = rw (le-leb (length ws) 4 h)
+four-fit (stopped a) h = refl
 
-    next : (t : T) (i room : ℕ) → i < length a
-        → answers (within step) (room, t) (cut (drop i a))
-        ≡ thenAnswers (fit room (step t (drop i a))) (λ s. answers (within step) s (cut (drop (i + size (getD a i 0)) a)))
-    unfolding answers within
-    next t i room h =
-        let e : step t (take (size (getD a i 0)) (drop i a)) ≡ step t (drop i a) = rw (drop-cons a i 0 h, near t (getD a i 0) (drop (suc i) a)) in
-        ap (answers (within step) (room, t)) (cut-at a i h) ∙ rw e
+pub down-answer : (down : Bool) (ws : List ℕ) (i : ℕ) (r : Done) → down ≡ true
+    → r ≡ reportOf (counting sent i 0) (packet (drop i ws)) (replicate 4 0) (packetDown (packet (drop i ws)))
+    → r .answer ≡ answerBy down (drop i ws)
+unfolding callDown
+down-answer down ws i r e f =
+    let p = packet (drop i ws) in
+    rw e (ap (λ (x : Done). x .answer) f ∙ four-fit (packetDown p) (few-down p (packet-four (drop i ws))))
 
-    over : (counts : List ℕ) (t : T) (out : List ℕ) (i n : ℕ) → Tells counts t out i n → answers (within step) (length out - n, t) (cut (drop i a)) ≡ [] → counts ≡ tally all
-    unfolding times
-    over counts t out i n s e = tally-is counts all (s .long) (λ j h. s .adds j h ∙ rw e (omega arith))
+module _ (down : Bool) (ws : List ℕ) where
+  abbrev from : ℕ → List ℕ
+  from i = map (answerBy down) (cut (drop i ws))
 
-    -- after a call: it read words, and its answer is counted; or it read none, and the counts are the tally
-    pub told : (t : T) (out : List ℕ) (i n A k m : ℕ) (t′ : T) (out′ : List ℕ) → Runs step near inside t₀ a out₀ t out i n → i < length a
-        → Did (within step (length out - n, t) (drop i a)) (length out - n) (length (packet (drop i a))) n t out A k m t′ out′
-        → (counts : List ℕ) → Tells counts t out i n
-        → ((k ≡ 0 → ⊥) → Tells (countedOf counts A) t′ out′ (i + k) (n + m)) × (k ≡ 0 → counts ≡ tally all)
-    unfolding within times
-    told t out i n A k m t′ out′ r h d₀ counts s = go (step t (drop i a)) (next t i (length out - n) h)
-        (subst (λ (l : List ℕ). Inside (length (packet l)) (size (getD a i 0)) (length l) (step t l)) (sym (drop-cons a i 0 h)) (inside t (getD a i 0) (drop (suc i) a)))
-        d₀ (λ z. turn step near inside t₀ a out₀ t out i n A k m t′ out′ r h d₀ .0 z .0 .long ∙ sym (r .long))
-      where
-        sz : ℕ
-        sz = size (getD a i 0)
+  -- the loop's invariant
+  pub record Counts (counts : List ℕ) (i : ℕ) : Type 0 where
+    pub before : List ℕ
+    pub few : length before ≤ i
+    pub all : map (answerBy down) (cut ws) ≡ before ++ from i
+    pub are : counts ≡ tally before
 
-        pk : ℕ
-        pk = length (packet (drop i a))
+  pub counts-start : Counts (0 ∷ 0 ∷ 0 ∷ 0 ∷ 0 ∷ 0 ∷ 0 ∷ 0 ∷ []) 0
+  unfolding tally times
+  counts-start = record { before = []; few = omega arith; all = refl; are = refl }
 
-        Then : Type 0
-        Then = ((k ≡ 0 → ⊥) → Tells (countedOf counts A) t′ out′ (i + k) (n + m)) × (k ≡ 0 → counts ≡ tally all)
+  pub counts-more : (counts : List ℕ) (i : ℕ) → Counts counts i → i < length ws → (a : ℕ) → a ≡ answerBy down (drop i ws)
+      → Counts (set counts a (getD counts a 0 + 1)) (i + size (getD ws i 0))
+  counts-more counts i c h a e =
+      let l = i + size (getD ws i 0) in
+      let near : answerBy down (take (size (getD ws i 0)) (drop i ws)) ≡ a =
+      rw (e, drop-cons ws i 0 h) (answer-near down (getD ws i 0) (drop (suc i) ws)) in
+      let step : from i ≡ a ∷ from l = ap (map (answerBy down)) (cut-at ws i h) ∙ rw near in
+      record {
+        before = c .before ++ (a ∷ []);
+        few = omega (arith, length-append (c .before) (a ∷ []), c .few, size-range (getD ws i 0));
+        all = c .all ∙ rw (step, append-assoc (c .before) (a ∷ []) (from l));
+        are = rw (c .are) (tally-more (c .before) a);
+      }
 
-        tail : ℕ × T → List ℕ
-        tail u = answers (within step) u (cut (drop (i + sz) a))
-
-        stop : answers (within step) (length out - n, t) (cut (drop i a)) ≡ [] → k ≡ 0 → Then
-        stop e z = (λ y. absurd (y z), λ _. over counts t out i n s e)
-
-        go : (c : Call T)
-            → answers (within step) (length out - n, t) (cut (drop i a)) ≡ thenAnswers (fit (length out - n) c) tail
-            → Inside pk sz (length (drop i a)) c
-            → Did (fit (length out - n) c) (length out - n) pk n t out A k m t′ out′
-            → ((k ≡ 0 → ⊥) → length out′ ≡ length out) → Then
-        go (stopped x) e f d l = stop e (d .reads)
-        go (went x w u) e f d l = deep (leb (length w) (length out - n)) e d
-          where
-            deep : (b : Bool)
-                → answers (within step) (length out - n, t) (cut (drop i a)) ≡ thenAnswers (cond b (went x w (length out - n - length w, u)) (stopped 9)) tail
-                → Did (cond b (went x w (length out - n - length w, u)) (stopped 9)) (length out - n) pk n t out A k m t′ out′ → Then
-            deep false e d = stop e (d .reads)
-            deep true e d =
-                let k= : k ≡ sz = d .reads ∙ f .0 in
-                let big = size-range (getD a i 0) in (
-                  λ z.
-                      record {
-                        long = length-set counts A (getD counts A 0 + 1) ∙ s .long;
-                        few = counted-few counts A i k (s .few) (omega arith);
-                        adds = λ j q.
-                            let rest = times j (tail (length out - n - length w, u)) in
-                            let p : times j all ≡ getD counts j 0 + (cond (eqb x j) 1 0 + rest) = s .adds j q ∙ ap (λ (y : List ℕ). getD counts j 0 + times j y) e in
-                            let free : length out′ - (n + m) ≡ length out - n - length w = omega (arith, l z, d .writes) in
-                            p ∙ rw (counted-at counts A j (omega (arith, s .long)), free, d .leaves, k=, d .answers) (sym (add-assoc (getD counts j 0) (cond (eqb x j) 1 0) rest));
-                      },
-                  λ z. absurd (omega arith),
-                )
-
-    pub ended : (counts : List ℕ) (t : T) (out : List ℕ) (i n : ℕ) → Tells counts t out i n → length a ≤ i → counts ≡ tally all
-    unfolding answers
-    ended counts t out i n s h = over counts t out i n s (rw (cut-end a i h))
+  pub counts-end : (counts : List ℕ) (i : ℕ) → Counts counts i → length ws ≤ i → counts ≡ tallyBy down ws
+  unfolding tallyBy
+  counts-end counts i c h = c .are ∙ ap tally (sym (c .all ∙ rw (cut-end ws i h, append-nil (c .before))))

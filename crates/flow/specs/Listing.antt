@@ -1,18 +1,27 @@
--- The listing: the line of a call in place of the words it sends (01 "Examples on each side").
+-- The listing (RULES 10.2): the line of a call in place of the words that it sends.
 use Prim.Native.Nat.{ℕ}
 use mathlib.Core.List.{List}
 use lib.ListN.{length}
 use Rattle.ump.specs.Packet.{packet}
+use Rattle.stream.specs.Call.{Call, stopped, went}
+use Rattle.stream.specs.Run.{Ran}
 use Rattle.channel.specs.declared.Record.{Record}
-use Rattle.voice.specs.Call.{Call, stopped, went}
+use Rattle.voice.specs.Packet.{packetUp}
 use Rattle.text.specs.Lines.{lineOf}
-use Rattle.quernbrae.specs.Table.{tableUp}
+use Rattle.table.specs.Table.{runBy, tableUp}
 
--- "writes per packet a line: answer, words read, then each word sent", for a packet of n words
-abbrev pub listed : {T : Type 0} → ℕ → Call T → Call T
-listed n (went a ws u) = went a (lineOf a n ws) u
-listed n (stopped a) = stopped a
+-- a call at the packet p; one that stops has no line
+abbrev pub listed : {T : Type 0} → List ℕ → Call T → Call T
+listed p (went a ws u) = went a (lineOf a (length p) ws) u
+listed p (stopped a) = stopped a
 
--- "The listing program translates up": the call with its line, whose room the run then asks as it asks that of words
+-- a packet with its own record, and the packet that stands first in some words with the table
+abbrev pub lineUp : Record → List ℕ → Call Record
+lineUp r p = listed p (packetUp r p)
+
 unfoldable pub listUp : List Record → List ℕ → Call (List Record)
-listUp t s = listed (length (packet s)) (tableUp t s)
+listUp t s = listed (packet s) (tableUp t s)
+
+-- a run up, in a text of so many bytes, whose room is asked for lines as that of an output is for words
+unfoldable pub runLines : ℕ → List Record → List ℕ → Ran (ℕ × List Record)
+runLines room t s = runBy listUp room t s

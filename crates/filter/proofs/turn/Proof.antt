@@ -1,4 +1,4 @@
--- `filter::turn` meets its contract: the words come from the bytes that were read, no more of them are treated, and the bytes that are kept
+-- `filter::turn` meets its contract: the words come from the bytes that were read, no more of them are translated, and the bytes that are kept
 -- fit in the buffer. Assumes nothing.
 use Prim.Native.Nat.{_*_, _≤_}
 use mathlib.Core.Path.{sym, _∙_}
@@ -16,16 +16,16 @@ entry c = c .before .before .before .before .before .before
 abbrev reading : tie.After-words-of → tie.After-read-more
 reading c = c .before .before .before .before .before
 
-abbrev filling : tie.After-treat → tie.After-words-of
+abbrev filling : tie.After-translate → tie.After-words-of
 filling c = c .before .before .before .before .before .before .before .before
 
-abbrev treating : tie.After-carry → tie.After-treat
-treating c = c .before .before .before .before .before .before .before .before .before
+abbrev translating : tie.After-carry → tie.After-translate
+translating c = c .before .before .before .before .before .before .before .before .before
 
 -- the words fit in their buffer, and four bytes were read for each
 filled : (c : tie.After-words-of) → (c .words-of .result ≤ length (c .words-of .last .1 .0)) × (4 * c .words-of .result ≤ length (reading c .read-more .last .0))
 filled c =
-    let w = words-most (c .words-of .result) (length (entry (reading c) .args .words .now)) (reading c .read-more .result .have) (reading c .read-more .last .0) (c .words-of .ensures .0) in
+    let w = words-most (c .words-of .result) (reading c .read-more .result .have) (reading c .read-more .last .0) (entry (reading c) .args .words .now) (c .words-of .ensures .0) in
     (omega (arith, w .0, c .words-of .kept .1 .0), w .1)
 
 mul-carry : tie.Need-mul-carry
@@ -33,7 +33,7 @@ mul-carry c =
     let t = c .before .before .before .before .before .before .before .before in
     let f = filling t in
     let r = reading f in
-    omega (arith, t .treat .ensures .0, length-take (f .words-of .result) (f .words-of .last .1 .0), filled f .1, r .read-more .kept .0, entry r .good .1 .1 .0 .0)
+    omega (arith, t .translate .ensures .0, length-take (f .words-of .result) (f .words-of .last .1 .0), filled f .1, r .read-more .kept .0, entry r .good .1 .1 .0 .0)
 
 pub turn-spec : {M : Type 1} → statement M
 turn-spec =
@@ -47,8 +47,8 @@ turn-spec =
     (λ c κs. search needs) (λ c κs. search needs)
     mul-carry
     (λ c κs. search needs)
-    (λ c. let k = c .before .before .before .before .before .before in k .carry .kept .0 ∙ reading (filling (treating k)) .read-more .kept .0)
-    (λ c. filling (treating (c .before .before .before .before .before .before)) .words-of .kept .1 .0)
-    (λ c. treating (c .before .before .before .before .before .before) .treat .kept .1 .1 .1 .1 .0)
-    (λ c. treating (c .before .before .before .before .before .before) .treat .kept .1 .1 .1 .1 .1 .0)
-    (λ c. let k = c .before .before .before .before .before .before in omega (arith, k .carry .kept .0, slice-most (k .carry .result) (4 * treating k .treat .result .read) (reading (filling (treating k)) .read-more .result .have) (reading (filling (treating k)) .read-more .last .0) (k .carry .ensures .0))))
+    (λ c. let k = c .before .before .before .before .before .before in k .carry .kept .0 ∙ reading (filling (translating k)) .read-more .kept .0)
+    (λ c. filling (translating (c .before .before .before .before .before .before)) .words-of .kept .1 .0)
+    (λ c. translating (c .before .before .before .before .before .before) .translate .kept .1 .1 .1 .1 .0)
+    (λ c. translating (c .before .before .before .before .before .before) .translate .kept .1 .1 .1 .1 .1 .0)
+    (λ c. let k = c .before .before .before .before .before .before in omega (arith, k .carry .kept .0, slice-most (k .carry .result) (4 * translating k .translate .result .read) (reading (filling (translating k)) .read-more .result .have) (reading (filling (translating k)) .read-more .last .0) (k .carry .ensures .0))))

@@ -1,12 +1,13 @@
--- `filter::report::Line::with_refusals` keeps the line within its bytes. The measure is the answers to come. Assumes nothing.
-use Prim.Native.Nat.{_-_, _≤_}
+-- `filter::summary::Line::with_refusals` keeps the line within its bytes. The measure is the answers to come. Assumes nothing.
+use Prim.Native.Nat.{_-_, _≤_, _^_}
 use mathlib.Core.Logic.{⊎-elim}
 use native.Mathlib.Omega.{arith}
-use Rattle.filter.proofs.report.Line.with_refusals.Statement.{statement}
-use Rattle.filter.proofs.report.Line.with_refusals.Tie as tie
+use borrow.Author.Needs.{needs}
+use Rattle.filter.proofs.summary.Line.with_refusals.Statement.{statement}
+use Rattle.filter.proofs.summary.Line.with_refusals.Tie as tie
 
 abbrev Inv-loop : tie.InvT-loop
-Inv-loop counts line₀ first₀ answer₀ line first answer = (line .len ≤ 256) × (answer ≤ 8)
+Inv-loop counts line₀ first₀ answer₀ line first answer = (line .len ≤ 2 ^ 8) × (answer ≤ 8)
 
 abbrev μ-loop : tie.MeasureT-loop
 μ-loop counts line₀ first₀ answer₀ line first answer = 8 - answer
@@ -17,6 +18,7 @@ with-refusals-spec =
     (tie.spec
     Inv-loop
     μ-loop
+    (λ c. search needs)
     (λ c. (omega arith, omega arith))
     (λ c. omega arith) (λ c. omega arith)
     (λ c κs. omega arith)

@@ -1,7 +1,12 @@
 // What a filter says at the end: one line, and none where nothing was refused and nothing cut.
 use libc::STDERR_FILENO;
-use voice::Done;
-ghost use Prim.Native.Nat.{_≤_};
+use stream::BAD_DATA;
+use stream::BAD_STATUS;
+use stream::Done;
+use stream::NO_FORM;
+use stream::RESERVED;
+use stream::WRONG_PROTOCOL;
+ghost use Prim.Native.Nat.{_≤_, _^_};
 
 // The words read and written in all, and how often each answer came, at its number.
 pub(crate) struct Totals {
@@ -11,7 +16,7 @@ pub(crate) struct Totals {
 }
 
 impl Totals {
-    pub(crate) fn none() -> Totals {
+    pub(crate) fn zero() -> Totals {
         Totals {
             read: 0,
             written: 0,
@@ -35,31 +40,34 @@ impl Totals {
     }
 }
 
+// The most that a line can have, and more than any has.
+const LINE_BYTES: usize = 0x100;
+
 // A line in the making: its first bytes.
 struct Line {
-    bytes: [u8; 256],
+    bytes: [u8; LINE_BYTES],
     len: usize,
 }
 
 impl Line {
     fn empty() -> Line
-        ensures { λ r. ⌜ r .len ≤ 256 ⌝ }
+        ensures { λ r. ⌜ r .len ≤ 2 ^ 8 ⌝ }
     {
         Line {
-            bytes: [0; 256],
+            bytes: [0; LINE_BYTES],
             len: 0,
         }
     }
 
     // With more bytes after it, as far as there is room.
     fn with(self, more: &[u8]) -> Line
-        requires { ⌜ self .len ≤ 256 ⌝ }
-        ensures { λ r. ⌜ r .len ≤ 256 ⌝ }
+        requires { ⌜ self .len ≤ 2 ^ 8 ⌝ }
+        ensures { λ r. ⌜ r .len ≤ 2 ^ 8 ⌝ }
     {
         let mut bytes = self.bytes;
         let mut len = self.len;
         let mut i = 0;
-        while i < more.len() && len < 256 {
+        while i < more.len() && len < LINE_BYTES {
             bytes[len] = more[i];
             len += 1;
             i += 1;
@@ -68,8 +76,8 @@ impl Line {
     }
 
     fn with_number(self, n: u64) -> Line
-        requires { ⌜ self .len ≤ 256 ⌝ }
-        ensures { λ r. ⌜ r .len ≤ 256 ⌝ }
+        requires { ⌜ self .len ≤ 2 ^ 8 ⌝ }
+        ensures { λ r. ⌜ r .len ≤ 2 ^ 8 ⌝ }
     {
         let mut digits = [0u8; 20];
         let k = io::decimal(n, &mut digits);
@@ -78,15 +86,15 @@ impl Line {
 
     // With an answer and how often it came.
     fn with_times(self, answer: u64, times: u64) -> Line
-        requires { ⌜ self .len ≤ 256 ⌝ }
-        ensures { λ r. ⌜ r .len ≤ 256 ⌝ }
+        requires { ⌜ self .len ≤ 2 ^ 8 ⌝ }
+        ensures { λ r. ⌜ r .len ≤ 2 ^ 8 ⌝ }
     {
         self.with_number(answer).with(b" x").with_number(times)
     }
 
     fn with_refusal(self, first: bool, answer: u64, times: u64) -> Line
-        requires { ⌜ self .len ≤ 256 ⌝ }
-        ensures { λ r. ⌜ r .len ≤ 256 ⌝ }
+        requires { ⌜ self .len ≤ 2 ^ 8 ⌝ }
+        ensures { λ r. ⌜ r .len ≤ 2 ^ 8 ⌝ }
     {
         if first {
             return self.with(b"; refused: ").with_times(answer, times);
@@ -94,14 +102,14 @@ impl Line {
         self.with(b", ").with_times(answer, times)
     }
 
-    // With each refusal that came: the answers from 2 on, of which 3 stops a run and is not counted.
+    // With each refusal that came: the answers from 2 on, of which no packet that was read has 3.
     fn with_refusals(self, counts: [u64; 8]) -> Line
-        requires { ⌜ self .len ≤ 256 ⌝ }
-        ensures { λ r. ⌜ r .len ≤ 256 ⌝ }
+        requires { ⌜ self .len ≤ 2 ^ 8 ⌝ }
+        ensures { λ r. ⌜ r .len ≤ 2 ^ 8 ⌝ }
     {
         let mut line = self;
         let mut first = true;
-        let mut answer: usize = 2;
+        let mut answer = NO_FORM as usize;
         while answer < 8 {
             let times = counts[answer];
             if 0 < times {
@@ -114,8 +122,8 @@ impl Line {
     }
 
     // Writes it to standard error.
-    fn say(self)
-        requires { ⌜ self .len ≤ 256 ⌝ }
+    fn write(self)
+        requires { ⌜ self .len ≤ 2 ^ 8 ⌝ }
     {
         let bytes = self.bytes;
         let len = self.len;
@@ -124,11 +132,15 @@ impl Line {
 }
 
 fn is_refused(counts: [u64; 8]) -> bool {
-    (0 < counts[2]) | (0 < counts[4]) | (0 < counts[5]) | (0 < counts[6]) | (0 < counts[7])
+    (0 < counts[NO_FORM as usize])
+        | (0 < counts[RESERVED as usize])
+        | (0 < counts[WRONG_PROTOCOL as usize])
+        | (0 < counts[BAD_STATUS as usize])
+        | (0 < counts[BAD_DATA as usize])
 }
 
 // Says what was read and written, what was refused and whether the end was cut.
-pub(crate) fn report(name: &[u8], totals: Totals, cut: bool) {
+pub(crate) fn say(name: &[u8], totals: Totals, cut: bool) {
     let counts = totals.counts;
     if !(is_refused(counts) | cut) {
         return;
@@ -140,8 +152,8 @@ pub(crate) fn report(name: &[u8], totals: Totals, cut: bool) {
     let written = read.with(b" words, wrote ").with_number(totals.written);
     let refused = written.with_refusals(counts);
     if cut {
-        refused.with(b"; cut packet at the end\n").say();
+        refused.with(b"; cut packet at the end\n").write();
     } else {
-        refused.with(b"\n").say();
+        refused.with(b"\n").write();
     }
 }

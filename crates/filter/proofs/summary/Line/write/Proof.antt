@@ -1,17 +1,17 @@
--- `filter::report::Line::say` is safe: a line has 256 bytes, of which the first are written. Assumes nothing.
+-- `filter::summary::Line::write` is safe: a line has 256 bytes, of which the first are written. Assumes nothing.
 use mathlib.Core.Path.{_≡_, sym}
 use native.Mathlib.Omega.{arith}
 use borrow.Author.Needs.{needs}
 use lib.ListN.{length}
 use lib.Seq.{length-take-le}
-use Rattle.filter.proofs.report.Line.say.Statement.{statement}
-use Rattle.filter.proofs.report.Line.say.Tie as tie
+use Rattle.filter.proofs.summary.Line.write.Statement.{statement}
+use Rattle.filter.proofs.summary.Line.write.Tie as tie
 
 long : (c : tie.Start) → length (c .args .self .bytes) ≡ 256
 long c = search needs
 
-pub say-spec : {M : Type 1} → statement M
-say-spec =
+pub write-spec : {M : Type 1} → statement M
+write-spec =
     tie.close
     (tie.spec
     (λ c. omega (arith, long (c .before)))

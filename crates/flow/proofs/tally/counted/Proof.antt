@@ -1,11 +1,11 @@
--- `flow::counted` meets its contract: an answer past the counts is not counted. Assumes nothing.
+-- `flow::tally::counted` meets its contract: an answer past the counts is not counted. Assumes nothing.
 use mathlib.Core.Path.{_≡_, sym}
 use native.Mathlib.Omega.{arith}
 use borrow.Author.Needs.{needs}
 use lib.ListN.{length}
 use lib.Seq.{set-out}
-use Rattle.flow.proofs.counted.Statement.{statement}
-use Rattle.flow.proofs.counted.Tie as tie
+use Rattle.flow.proofs.tally.counted.Statement.{statement}
+use Rattle.flow.proofs.tally.counted.Tie as tie
 
 returns-2 : tie.Need-returns-2
 returns-2 c =

@@ -1,13 +1,13 @@
--- `filter::report::Line::with` keeps the line within its bytes. The measure is the bytes to come. Assumes nothing.
-use Prim.Native.Nat.{_-_, _≤_}
+-- `filter::summary::Line::with` keeps the line within its bytes. The measure is the bytes to come. Assumes nothing.
+use Prim.Native.Nat.{_-_, _≤_, _^_}
 use native.Mathlib.Omega.{arith}
 use borrow.Author.Tests.{ltb-true}
 use lib.ListN.{length}
-use Rattle.filter.proofs.report.Line.with.Statement.{statement}
-use Rattle.filter.proofs.report.Line.with.Tie as tie
+use Rattle.filter.proofs.summary.Line.with.Statement.{statement}
+use Rattle.filter.proofs.summary.Line.with.Tie as tie
 
 abbrev Inv-loop : tie.InvT-loop
-Inv-loop more bytes₀ len₀ i₀ bytes len i = (len ≤ 256) × (i ≤ length more)
+Inv-loop more bytes₀ len₀ i₀ bytes len i = (len ≤ 2 ^ 8) × (i ≤ length more)
 
 abbrev μ-loop : tie.MeasureT-loop
 μ-loop more bytes₀ len₀ i₀ bytes len i = length more - i

@@ -1,0 +1,86 @@
+-- A run reads no more words than it is given, and sends no more than its output holds. Assumes nothing.
+use Prim.Native.Nat.{ℕ, zero, suc, pred, _+_, _-_, _≤_}
+use mathlib.Core.Path.{_≡_, ap, _∙_}
+use mathlib.Core.List.{List, [], _∷_}
+use native.Mathlib.Omega.{arith}
+use lib.Dec.{eqb}
+use lib.ListN.{drop, length, length-append, length-drop, length-take}
+use Rattle.ground.specs.Store.{atStart}
+use Rattle.ground.proofs.Cases.{choose}
+use Rattle.ump.specs.Packet.{cut, cutAfter, size}
+use Rattle.ump.proofs.PacketLaws.{size-range}
+use Rattle.stream.specs.declared.Done.{Done}
+use Rattle.stream.specs.Call.{Call}
+use Rattle.stream.specs.Report.{reported}
+use Rattle.stream.specs.Run.{Ran, run}
+use Rattle.stream.proofs.RunLaws.{by-first-call, size-of}
+use Rattle.channel.specs.declared.Record.{Record}
+use Rattle.channel.specs.Record.{wholeTable}
+use Rattle.voice.specs.Packet.{runDown}
+use Rattle.table.specs.Table.{runBy, runUp}
+use Rattle.flow.specs.Listing.{runLines}
+
+-- the packets of a stream have its words
+cut-words : (k : ℕ) (s : List ℕ) → size-of (cutAfter k s) ≡ length s - k
+unfolding cutAfter
+cut-words k [] = omega arith
+cut-words (suc k) (w ∷ s) = cut-words k s ∙ omega arith
+cut-words zero (w ∷ s) = omega (arith, length-take (size w) (w ∷ s), cut-words (pred (size w)) s, size-range w)
+
+packets-read : {T : Type 0} (step : T → List ℕ → Call T) (t : T) (ps : List (List ℕ)) → run step t ps .read ≤ size-of ps
+unfolding run
+packets-read step t [] = omega arith
+packets-read {T} step t (p ∷ ps) =
+    by-first-call step (λ (r : Ran T). r .read ≤ length p + size-of ps) t p ps
+    (λ a ws u e. omega (arith, packets-read step u ps)) (λ a e. omega arith)
+
+words-read : {T : Type 0} (step : T → List ℕ → Call T) (t : T) (ws : List ℕ) → run step t (cut ws) .read ≤ length ws
+unfolding cut
+words-read step t ws = omega (arith, packets-read step t (cut ws), cut-words 0 ws)
+
+-- what is reported of a run is no more than that
+reads-most : {T : Type 0} (r : Ran T) (n : ℕ) (d : Done) → r .read ≤ n → d ≡ reported r → d .read ≤ n
+reads-most r n d h e = omega (arith, ap (λ (x : Done). x .read) e)
+
+pub up-reads : (room : ℕ) (t : List Record) (ws : List ℕ) (d : Done) → d ≡ reported (runUp room t ws) → d .read ≤ length ws
+unfolding runUp
+up-reads room t ws d =
+    reads-most (runUp room t ws) (length ws) d
+    (choose (λ (r : Ran (ℕ × List Record)). r .read ≤ length ws) (eqb (length t) wholeTable) (λ _. words-read _ _ ws) (λ _. omega arith))
+
+lines-read : (room : ℕ) (t : List Record) (ws : List ℕ) (d : Done) → d ≡ reported (runLines room t ws) → d .read ≤ length ws
+unfolding runLines
+lines-read room t ws d =
+    reads-most (runLines room t ws) (length ws) d
+    (choose (λ (r : Ran (ℕ × List Record)). r .read ≤ length ws) (eqb (length t) wholeTable) (λ _. words-read _ _ ws) (λ _. omega arith))
+
+pub down-reads : (room : ℕ) (ws : List ℕ) (d : Done) → d ≡ reported (runDown room ws) → d .read ≤ length ws
+unfolding runDown
+down-reads room ws d = reads-most (runDown room ws) (length ws) d (words-read _ _ ws)
+
+-- what an output of the same length holds was room for
+writes-most : {T : Type 0} (r : Ran T) (out out′ : List ℕ) (d : Done)
+    → d ≡ reported r → out′ ≡ atStart (r .sends) out → length out′ ≡ length out → d .written ≤ length out′
+writes-most r out out′ d e f l =
+    omega (
+      arith,
+      ap (λ (x : Done). x .written) e,
+      ap length f,
+      length-append (r .sends) (drop (length (r .sends)) out),
+      length-drop (length (r .sends)) out,
+    )
+
+-- both, of each run
+module _ (room : ℕ) (t : List Record) (ws out out′ : List ℕ) (d : Done) (same : length out′ ≡ length out) where
+  abbrev Bounded : Type 0
+  Bounded = (d .read ≤ length ws) × (d .written ≤ length out′)
+
+  pub up-bounds : d ≡ reported (runUp room t ws) → out′ ≡ atStart (runUp room t ws .sends) out → Bounded
+  up-bounds e f = (up-reads room t ws d e, writes-most (runUp room t ws) out out′ d e f same)
+
+  pub lines-bounds : d ≡ reported (runLines room t ws) → out′ ≡ atStart (runLines room t ws .sends) out → Bounded
+  lines-bounds e f = (lines-read room t ws d e, writes-most (runLines room t ws) out out′ d e f same)
+
+pub down-bounds : (room : ℕ) (ws out out′ : List ℕ) (d : Done) → length out′ ≡ length out → d ≡ reported (runDown room ws)
+    → out′ ≡ atStart (runDown room ws .sends) out → (d .read ≤ length ws) × (d .written ≤ length out′)
+down-bounds room ws out out′ d l e f = (down-reads room ws d e, writes-most (runDown room ws) out out′ d e f l)

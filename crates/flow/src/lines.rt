@@ -1,0 +1,105 @@
+// The run up into lines: a line for each packet in place of the words that it sends.
+use crate::LinesReport;
+use crate::Table;
+use channel::Record;
+use stream::Done;
+use stream::NO_ROOM;
+use stream::SENT;
+use stream::report;
+use voice::RecordAndReport;
+ghost use mathlib.Core.Path.{_≡_};
+ghost use Prim.Native.Nat.{_<_};
+ghost use lib.ListN.{length};
+ghost use Rattle.ground.specs.Store.{atStart};
+ghost use Rattle.ump.specs.Word.{placeOf};
+ghost use Rattle.stream.specs.Report.{counting, reported};
+ghost use Rattle.channel.specs.Record.{wholeTable};
+ghost use Rattle.voice.specs.Packet.{changesAt};
+ghost use Rattle.voice.specs.Turn.{next, outputOf, turned};
+ghost use Rattle.table.specs.Table.{tableAfter};
+ghost use Rattle.flow.specs.Listing.{lineUp, runLines};
+
+// Where a packet's record stands, by its first word.
+pub(crate) fn record_place(w: u32) -> usize
+    ensures place { λ r. ⌜ r ≡ placeOf w ⌝ }
+    ensures inside { λ r. ⌜ r < wholeTable ⌝ }
+{
+    ump::record_number(ump::group_of(w), ump::channel_of(w))
+}
+
+// A call up, told of a text that is then written so far.
+fn told(turned: RecordAndReport, written: usize) -> RecordAndReport
+    ensures { λ r. ⌜ r ≡ record {
+      after = turned .after;
+      changes = turned .changes;
+      done = counting (turned .done .answer) (turned .done .read) written;
+    } ⌝ }
+{
+    let after = turned.after;
+    let done = turned.done;
+    RecordAndReport {
+        after,
+        changes: turned.changes,
+        done: report(done.answer, done.read, written),
+    }
+}
+
+// The packet that is next in the words, with its record, and its line after what was written so far.
+fn list_one(words: &[u32], past: Done, record: Record, text: &mut [u8]) -> RecordAndReport
+    ensures turn { λ r. ⌜ r ≡ turned past (next (now (words .entry)) past) (now (text .entry)) «record»
+        (changesAt (next (now (words .entry)) past)) (lineUp «record» (next (now (words .entry)) past)) ⌝ }
+    ensures text { λ _. ⌜ now (text .exit)
+        ≡ outputOf past (now (text .entry)) (lineUp «record» (next (now (words .entry)) past)) ⌝ }
+{
+    let read = past.read;
+    let to = past.written;
+    let mut four = [0u32; 4];
+    let turned = voice::up(words, report(SENT, read, 0), record, &mut four);
+    let done = turned.done;
+    if done.read == read {
+        return told(turned, to);
+    }
+    let n = done.written;
+    let end = text::line(done.answer, done.read - read, &four[..n], text, to);
+    if end == to {
+        let done = report(NO_ROOM, read, to);
+        return RecordAndReport {
+            after: record,
+            changes: false,
+            done,
+        };
+    }
+    told(turned, end)
+}
+
+// The lines of the packets, going up, until one stops the run or its line has no room.
+pub fn list_some(table: Table, words: &[u32], text: &mut [u8]) -> LinesReport
+    ensures report { λ r. ⌜ r .done
+        ≡ reported (runLines (length (now (text .entry))) (table .records) (now (words .entry))) ⌝ }
+    ensures table { λ r. ⌜ r .table .records
+        ≡ tableAfter (runLines (length (now (text .entry))) (table .records) (now (words .entry))) ⌝ }
+    ensures lines { λ _. ⌜ now (text .exit) ≡ atStart
+        (runLines (length (now (text .entry))) (table .records) (now (words .entry)) .sends) (now (text .entry)) ⌝ }
+{
+    let mut records = table.records;
+    let mut read: usize = 0;
+    let mut written: usize = 0;
+    while read < words.len() {
+        let i = record_place(words[read]);
+        let listed = list_one(words, report(SENT, read, written), records[i], text);
+        let after = listed.after;
+        let done = listed.done;
+        if listed.changes {
+            records[i] = after;
+        }
+        if done.read == read {
+            let table = Table { records };
+            return LinesReport { table, done };
+        }
+        read = done.read;
+        written = done.written;
+    }
+    let table = Table { records };
+    let done = report(SENT, read, written);
+    LinesReport { table, done }
+}
