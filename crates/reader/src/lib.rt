@@ -1,7 +1,7 @@
-// Packets read one after another, by a reader that holds the lent words and its place in them.
+// Packets one after another: a reader is the words that it was lent, and how far it has come in them.
 //
-// Every function is total: a place past the end has no words left. They are thin functions over
-// ump's `packet_at` and `next_place`.
+// Every function is total: past the end there is no packet. They are thin functions over ump's
+// `packet_at` and `next_place`.
 ghost use mathlib.Core.Path.{_≡_};
 ghost use Prim.Native.Nat.{_+_};
 ghost use lib.ListN.{drop, length};
