@@ -6,3 +6,4 @@ pub mod Post
 pub mod Again
 pub mod Tests
 pub mod StoreLaws
+pub mod Stores

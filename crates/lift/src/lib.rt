@@ -107,7 +107,7 @@ fn velocity(w: u32) -> u32
 }
 
 // A value of seven bits, scaled.
-fn seven(value: u8) -> u32
+fn seven_bits(value: u8) -> u32
     ensures { λ r. ⌜ r ≡ up 7 32 (value % 2 ^ 7) ⌝ }
 {
     scale::up_7_to_32(value as u32)
@@ -141,7 +141,7 @@ fn data_low(record: Record, w: u32) -> UpwardMessage
 fn plain(record: Record, w: u32) -> UpwardMessage
     ensures { λ r. ⌜ r ≡ controlIn w false (Lift.plain «record» (Word.data1 w) (Word.data2 w)) ⌝ }
 {
-    sent_up(record, false, 11, data1(w), 0, w, seven(data2(w)))
+    sent_up(record, false, 11, data1(w), 0, w, seven_bits(data2(w)))
 }
 
 fn controlled(control: Control, record: Record, w: u32) -> UpwardMessage
@@ -226,10 +226,10 @@ pub fn lifted(record: Record, w: u32) -> UpwardMessage
         return note(record, w, s);
     }
     match s {
-        10 => sent_up(record, false, 10, data1(w), 0, w, seven(data2(w))),
+        10 => sent_up(record, false, 10, data1(w), 0, w, seven_bits(data2(w))),
         11 => control_change(record, w),
         12 => program(record, w),
-        13 => sent_up(record, false, 13, 0, 0, w, seven(data1(w))),
+        13 => sent_up(record, false, 13, 0, 0, w, seven_bits(data1(w))),
         _ => sent_up(record, false, 14, 0, 0, w, fourteen(data2(w), data1(w))),
     }
 }

@@ -16,6 +16,7 @@ use Rattle.ump.specs.Packet.{cut, first, packet, size}
 use Rattle.ump.proofs.PacketLaws.{cut-at, cut-end, size-range}
 use Rattle.stream.specs.Answers.{noRoom, sent}
 use Rattle.stream.specs.Call.{Call, answerOf, fit, leftOf, readOf, sentOf, stopped, went, within}
+use Rattle.stream.specs.Report.{counting, reported}
 use Rattle.stream.specs.Run.{Ran, run, thenRun}
 
 -- What a function that makes the call c answers: at the packet p, in state t, into the output from the place `to` on.
@@ -35,6 +36,11 @@ pub record DidRun {T : Type 0} (r : Ran (ℕ × T)) (out : List ℕ) (answer rea
   pub writes : words ≡ length (r .sends)
   pub leaves : t′ ≡ r .left .1
   pub holds : out′ ≡ atStart (r .sends) out
+
+-- what is reported of a run that is done
+pub reports : {T : Type 0} {r : Ran (ℕ × T)} {out out′ : List ℕ} {a i n : ℕ} {t : T} → DidRun r out a i n t out′
+    → counting a i n ≡ reported r
+reports d = rw (d .answers, d .reads, d .writes)
 
 -- a call that goes on has a whole packet among the words s
 abbrev pub Inside : {T : Type 0} → List ℕ → Call T → Type 0

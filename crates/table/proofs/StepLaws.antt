@@ -21,7 +21,7 @@ use Rattle.voice.proofs.PacketLaws.{unchanged-in-room}
 use Rattle.table.specs.declared.Job.{Job}
 use Rattle.table.specs.declared.Progress.{Progress}
 use Rattle.table.specs.Table.{tableUp}
-use Rattle.table.specs.Progress.{after, callAt, onward, outputAfterCall, recordStep, stateAfter, stepped, tableStep}
+use Rattle.table.specs.Progress.{after, callAt, moved, outputAfterCall, recordStep, stateAfter, stepped, tableStep}
 use Rattle.table.proofs.TableLaws.{own-call, placeAt, table-inside, table-near}
 
 pub place-lt : (t : List Record) (ws : List ℕ) (i : ℕ) → length t ≡ wholeTable → placeAt ws i < length t
@@ -42,7 +42,7 @@ module _ (j : Job) (ws : List ℕ) (p : Progress) (t : List Record) (out : List 
   unfolding after recordStep tableStep stepped
   as-table l =
       let e = own-call (p .done) (next ws (p .done)) (length out - p .done .written) t ws (p .done .read) l in
-      (ap (onward (j .once) (length ws) p) (e .0), e .2, ap (λ (x : List ℕ). written (p .done .written) x out) (e .1))
+      (ap (moved (j .once) (length ws) p) (e .0), e .2, ap (λ (x : List ℕ). written (p .done .written) x out) (e .1))
 
   -- a record that is not said to change stays as it was
   pub unchanged : stepped j ws p own out .changes ≡ false → set t (placeAt ws (p .done .read)) (stepped j ws p own out .after) ≡ t

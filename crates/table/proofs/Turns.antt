@@ -27,7 +27,7 @@ use Rattle.voice.specs.Turn.{next}
 use Rattle.table.proofs.StepLaws.{step-inside, step-near, step-refuses}
 use Rattle.table.specs.declared.Job.{Job}
 use Rattle.table.specs.declared.Progress.{Progress}
-use Rattle.table.specs.Progress.{after, asked, askedBy, begun, callAt, onward, opening, outputAfterCall, stateAfter, tableStep}
+use Rattle.table.specs.Progress.{after, asked, askedBy, begun, callAt, moved, opening, outputAfterCall, stateAfter, tableStep}
 use Rattle.table.proofs.Values.{P, valsP}
 
 -- one call alone
@@ -83,7 +83,7 @@ module _ (j : Job) (ws : List ℕ) (tb₀ : List Record) (out₀ : List ℕ) whe
     at b d = record { done = counting (cond b (answerOf c) sent) (i + k) (n + m); more = not b && d }
 
     -- one more call
-    pub turned : (once : Bool) → length tb′ ≡ length tb → Stands once true p tb out → Next once (onward once (length ws) p (further (p .done) (next ws (p .done)) c))
+    pub turned : (once : Bool) → length tb′ ≡ length tb → Stands once true p tb out → Next once (moved once (length ws) p (further (p .done) (next ws (p .done)) c))
     turned true l s =
         let e : called (next ws (p .done)) (length out - n, tb) c ≡ askedBy (tableStep j) true (length out₀) tb₀ ws = rw (s .1 .0, s .1 .1, s .1 .2, s .1 .3, sub-zero (length out₀)) in
         let d = called-did (next ws (p .done)) (length out - n) tb out c i n (s .1 .0) (s .1 .1) in (

@@ -56,13 +56,13 @@ callAt step ws p t out = within step (length out - p .done .written, t) (drop (p
 
 -- After a call that leaves the report d, in words of l. A call that is the only one, or that read nothing, is the last
 -- and has the answer; a run that goes on has none yet.
-abbrev pub onward : Bool → ℕ → Progress → Done → Progress
-onward once l p d =
+abbrev pub moved : Bool → ℕ → Progress → Done → Progress
+moved once l p d =
     let last = once || eqb (d .read) (p .done .read) in
     record { done = counting (cond last (d .answer) sent) (d .read) (d .written); more = not last && ltb (d .read) l }
 
 unfoldable pub after : {T : Type 0} → Job → List ℕ → Progress → Call (ℕ × T) → Progress
-after job ws p c = onward (job .once) (length ws) p (further (p .done) (next ws (p .done)) c)
+after job ws p c = moved (job .once) (length ws) p (further (p .done) (next ws (p .done)) c)
 
 -- the state that a call at the next packet leaves, and the output after it
 abbrev pub stateAfter : {T : Type 0} → (T → List ℕ → Call T) → List ℕ → Progress → T → List ℕ → T

@@ -11,7 +11,7 @@ use lib.ListN.{length, length-append, getD, set, take}
 use lib.Seq.{length-take-le, sets, take-suc}
 use borrow.Author.Tests.{le-leb, le-ltb, leb-false, leb-true, lt-leb, lt-ltb, ltb-false}
 use Rattle.text.specs.Lines.{decimal, digits, glyph, hex, hexFields, lineOf, places, placesIn}
-use Rattle.wire.proofs.Stores.{set-sets, sets-append}
+use Rattle.ground.proofs.Stores.{set-sets, sets-append}
 
 pub digits-length : (b k n : ℕ) → length (digits b k n) ≡ k
 unfolding digits

@@ -96,5 +96,5 @@ pub fn record_number(group: Group, channel: Channel) -> usize
 {
     let g = group.0;
     let c = channel.0;
-    16 * (g as usize) + c as usize
+    0x10 * (g as usize) + c as usize
 }

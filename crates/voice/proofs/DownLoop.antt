@@ -7,8 +7,7 @@ use lib.ListN.{drop, length}
 use Rattle.stream.specs.declared.Done.{Done}
 use Rattle.stream.specs.Answers.{sent}
 use Rattle.stream.specs.Call.{Call, readOf, sentOf, within}
-use Rattle.stream.specs.Report.{counting, reported}
-use Rattle.stream.specs.Run.{Ran}
+use Rattle.stream.specs.Report.{counting}
 use Rattle.stream.proofs.RunLoop.{DidRun, Runs, turn}
 use Rattle.voice.specs.Packet.{callDown, packetDown, runDown}
 use Rattle.voice.specs.Turn.{next, outputOf, reportOf}
@@ -17,11 +16,6 @@ use Rattle.voice.proofs.PacketLaws.{down-inside, down-near}
 -- what was done, and then the run down from here, is the whole run down
 abbrev pub Downs : List ℕ → List ℕ → List ℕ → ℕ → ℕ → Type 0
 Downs ws out₀ out i n = Runs callDown down-near down-inside tt ws out₀ tt out i n
-
--- what is reported of a run that is done
-pub reports : {T : Type 0} {r : Ran (ℕ × T)} {out out′ : List ℕ} {a i n : ℕ} {t : T} → DidRun r out a i n t out′
-    → counting a i n ≡ reported r
-reports d = rw (d .answers, d .reads, d .writes)
 
 module _ (ws out₀ out : List ℕ) (i n : ℕ) (inv : Downs ws out₀ out i n) (h : i < length ws) (r : Done) (after : List ℕ) where
   abbrev d : Done

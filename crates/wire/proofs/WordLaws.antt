@@ -7,7 +7,7 @@ use native.Mathlib.Numerals.{add-one}
 use lib.ListN.{length, getD, take, set, length-drop, length-take}
 use lib.Seq.{getD-drop, getD-take, length-take-le, sets, slice, take-suc}
 use Rattle.wire.specs.Words.{bytesOf, fourBytes, wordFrom, wordsOf}
-use Rattle.wire.proofs.Stores.{getD-sets, sets-append, sets-more}
+use Rattle.ground.proofs.Stores.{getD-sets, sets-append, sets-more}
 
 pub words-length : (s : List ℕ) → length (wordsOf s) ≡ length s / 4
 unfolding wordsOf

@@ -18,7 +18,5 @@ sent-as-bytes-spec =
     tie.close
     (tie.spec
     (λ c. let s = c .before .before .before in sym (length-take-le (s .args .done .written) (s .args .sent .now) (s .pre)))
-    (λ c κs. search needs)
-    (λ c κs. search needs)
-    (λ c. search needs)
+    (λ c κs. search needs) (λ c κs. search needs) (λ c. search needs)
     returns)

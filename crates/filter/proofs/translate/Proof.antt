@@ -33,23 +33,17 @@ pub translate-spec : {M : Type 1} → statement M
 translate-spec =
     tie.close
     (tie.spec
-    (λ c. search needs)
-    (λ c κs. search needs)
-    (λ c. search needs)
-    (λ c κs. search needs)
+    (λ c. search needs) (λ c κs. search needs) (λ c. search needs) (λ c κs. search needs)
     (λ c κs.
     let u = c .before .before .before .before .before .before .up-some in
     up-bounds _ _ _ (now (c .before .before .before .before .before .before .before .before .before .before .before .before .before .args .sent)) _ (u .result .done) (u .kept .1 .1 .0) (u .ensures .0) (u .ensures .1 .1 .1) .1)
-    (λ c. search needs)
-    (λ c κs. search needs)
+    (λ c. search needs) (λ c κs. search needs)
     (λ c κs.
     let u = c .before .before .before .before .before .down-some in
     down-bounds _ _ (now (c .before .before .before .before .before .before .before .before .before .before .before .before .args .sent)) _ (u .result .done) (u .kept .1 .0) (u .ensures .0) (u .ensures .1 .1) .1)
     (λ c. search needs)
     returns
-    (λ c. search needs)
-    (λ c. search needs)
+    (λ c. search needs) (λ c. search needs)
     returns-2
-    (λ c. search needs)
-    (λ c. search needs)
+    (λ c. search needs) (λ c. search needs)
     returns-3)

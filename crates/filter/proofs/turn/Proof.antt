@@ -39,14 +39,12 @@ pub turn-spec : {M : Type 1} → statement M
 turn-spec =
     tie.close
     (tie.spec
-    (λ c κs. search needs)
-    (λ c. search needs)
+    (λ c κs. search needs) (λ c. search needs)
     (λ c. let r = c .before .before .before .read-more in sym (length-take-le (r .result .have) (r .last .0) (r .ensures)))
     (λ c κs. search needs)
     (λ c. filled (c .before .before .before .before) .0)
     (λ c. let f = c .before .before .before .before .before in sym (length-take-le (f .words-of .result) (f .words-of .last .1 .0) (filled f .0)))
-    (λ c κs. search needs)
-    (λ c κs. search needs)
+    (λ c κs. search needs) (λ c κs. search needs)
     mul-carry
     (λ c κs. search needs)
     (λ c. let k = c .before .before .before .before .before .before in k .carry .kept .0 ∙ reading (filling (translating k)) .read-more .kept .0)

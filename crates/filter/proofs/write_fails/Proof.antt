@@ -10,8 +10,5 @@ write-fails-spec =
     tie.close
     (tie.spec
     (λ c. let s = c .before .before in sym (length-take-le (s .args .n) (s .args .text .now) (s .pre)))
-    (λ c κs. search needs)
-    (λ c. search needs)
-    (λ c. search needs)
-    (λ c κs. search needs)
+    (λ c κs. search needs) (λ c. search needs) (λ c. search needs) (λ c κs. search needs)
     (λ c. search needs))

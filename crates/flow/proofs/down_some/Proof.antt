@@ -20,6 +20,5 @@ down-some-spec =
     (tie.spec
     (λ c κs. search needs)
     read-words
-    (λ c κs. search needs)
-    (λ c. search needs)
+    (λ c κs. search needs) (λ c. search needs)
     (λ c. let e = c .before .before .before .before .run-down .ensures in (e .0, (c .tally-of .ensures, e .1))))

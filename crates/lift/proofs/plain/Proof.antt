@@ -11,4 +11,4 @@ plain-spec =
     tie.close
     (tie.spec
     (λ c κs. search needs) (λ c κs. search needs) (λ c κs. search needs) (λ c κs. search needs)
-    (λ c. simp (seven-bits2, c .sent-up .ensures, c .before .seven .ensures, c .before .before .data2 .ensures, c .before .before .before .data1 .ensures)))
+    (λ c. simp (seven-bits2, c .sent-up .ensures, c .before .seven-bits .ensures, c .before .before .data2 .ensures, c .before .before .before .data1 .ensures)))

@@ -6,7 +6,7 @@ use lib.ListN.{length}
 use Rattle.voice.specs.declared.RecordAndReport.{RecordAndReport}
 use Rattle.stream.specs.Call.{within}
 use Rattle.voice.specs.Packet.{callUp}
-use Rattle.table.specs.Progress.{after, onward, recordStep, stepped}
+use Rattle.table.specs.Progress.{after, moved, recordStep, stepped}
 use borrow.Author.Needs.{needs}
 use Rattle.table.proofs.step.Statement.{statement}
 use Rattle.table.proofs.step.Tie as tie
@@ -17,7 +17,7 @@ returns c =
     let a = c .before .before .before .before .before .before .before .before .before .before .before .before .before .before .before .args in
     let u = c .before .before .before .before .before .before .before .before .before .before .up in
     simp (c .before .report .ensures, c .before .before .answer-of .ensures)
-    (ap (λ (x : RecordAndReport). record { after = x .after; changes = x .changes; progress = onward (a .job .once) (length (now (a .words))) (a .p) (x .done) }) (u .ensures .0), u .ensures .1)
+    (ap (λ (x : RecordAndReport). record { after = x .after; changes = x .changes; progress = moved (a .job .once) (length (now (a .words))) (a .p) (x .done) }) (u .ensures .0), u .ensures .1)
 
 pub step-spec : {M : Type 1} → statement M
 step-spec =

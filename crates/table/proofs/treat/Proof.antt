@@ -1,5 +1,6 @@
 -- `table::treat` meets its contract: a walk of its MIR. In each turn of the loop the table and the output are lent again to `one`, for two lifetimes that are made for the call, and come back (`Again.antt`). What the loop keeps is `Turns.antt`'s `Turn`.
 -- Assumes nothing.
+use Rattle.stream.proofs.RunLoop.{reports}
 use Rattle.ground.proofs.Walk.{_≡_, refl, sym, subst, ℕ, Bool, true, false, [], _∷_, List, length, Holds, URA, fullShare, named, erased, w64, tyInt, tyBool, Val, WT, hasTy, vbool, SProp, ent, emp, via, fst∗, Lft, Share, GName, Fml, ftrue, fsep, fat, froom, fdies, flft, Memory, Routine, Heap, Out, Env, afterSeq, afterBlock, afterTurn, Calls, Loops, Wp, atReturn, WpFn, Tables, Atoms, Fun, givenOf, tables, tablesOf, Given, Item, ‵, raw, given, some, later, _⊛_, ⋆, Sq, anyQ, atRet, runs, _$_, _∵_, !, qed, by, move, keep, drop, use0, use1, use2, use3, split, join, pick, learn, rewrite, fsplit, fjoin, suffices, frame, await, done, look, init, store, forget, stop, hop, fld, from, load, addr, of-opd, and-then, no-more, assigns, land, land-last, first, blocks, loops, Below, again, stays, leaves-loop, exec, returns, enter, alloc1, alloc0, params1, pass1, pass0, free1, free0, agg, whole, sub, look-in, lft-new, lft-end, FmC, fmOf, WpFn-mono, owns, Is, u32, RefT, sliceVal, MutSlice, ShrSlice, Room, slice-vals, mut-slice-tells, shr-slice-tells, shr-slice-copy, finally, owned, nothing, onEntry, Meets, tripleOf, Triple, calls-at, calls-at-last, entered, cited, Stays, stay-none, stay-slice, stay-none-slice, walkOf, goes-none, goes-slice, goes-none-slice, Walks, ends-at, walked, walk-meets, yes, plain}
 use Rattle.channel.specs.declared.Record.{Record}
 use Rattle.table.specs.declared.Progress.{Progress}
@@ -8,7 +9,6 @@ use Rattle.stream.proofs.Done.Laws as TD′
 use Rattle.ground.specs.Store.{atStart}
 use Rattle.stream.specs.Report.{reported}
 use Rattle.stream.specs.Run.{Ran}
-use Rattle.voice.proofs.DownLoop.{reports}
 use Rattle.table.specs.Table.{tableAfter}
 use Rattle.table.specs.Progress.{asked, begun}
 use Rattle.table.proofs.Job.Laws as TJ′

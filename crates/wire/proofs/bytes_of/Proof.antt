@@ -7,7 +7,7 @@ use borrow.Author.Needs.{needs}
 use lib.ListN.{length, length-take, take}
 use lib.Seq.{sets}
 use Rattle.wire.specs.Words.{bytesOf}
-use Rattle.wire.proofs.Stores.{take-least}
+use Rattle.ground.proofs.Stores.{take-least}
 use Rattle.wire.proofs.WordLaws.{bytes-length, bytes-more}
 use Rattle.wire.proofs.bytes_of.Statement.{statement}
 use Rattle.wire.proofs.bytes_of.Tie as tie

@@ -7,7 +7,7 @@ use borrow.Author.Needs.{needs}
 use lib.ListN.{length, length-take, take}
 use lib.Seq.{sets}
 use Rattle.wire.specs.Words.{wordsOf}
-use Rattle.wire.proofs.Stores.{take-least}
+use Rattle.ground.proofs.Stores.{take-least}
 use Rattle.wire.proofs.WordLaws.{words-length, words-more}
 use Rattle.wire.proofs.words_of.Statement.{statement}
 use Rattle.wire.proofs.words_of.Tie as tie

@@ -80,14 +80,9 @@ run-by-value-spec =
     Inv-loop
     μ-loop
     (λ c. (start tableUp table-near table-inside _ _ _, search (length-mapped, needs)))
-    (λ c. search needs)
-    (λ c. search needs)
-    (λ c κs. search needs)
-    (λ c κs. search needs)
-    (λ c. search needs)
+    (λ c. search needs) (λ c. search needs) (λ c κs. search needs) (λ c κs. search needs) (λ c. search needs)
     (λ c. c .before .record-place .ensures .1)
-    (λ c κs. search needs)
-    (λ c. search needs)
+    (λ c κs. search needs) (λ c. search needs)
     (λ c. c .before .before .before .before .before .before .before .before .before .record-place .ensures .1)
     (λ c. search needs)
     returns

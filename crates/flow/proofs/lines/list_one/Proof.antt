@@ -58,18 +58,12 @@ pub list-one-spec : {M : Type 1} → statement M
 list-one-spec =
     tie.close
     (tie.spec
-    (λ c κs. search needs)
-    (λ c. search needs)
-    (λ c κs. search needs)
-    (λ c κs. search needs)
+    (λ c κs. search needs) (λ c. search needs) (λ c κs. search needs) (λ c κs. search needs)
     returns
     (λ c. words (c .before .before .before .before .before) .0)
     (λ c. words (c .before .before .before .before .before) .1)
     (λ c. words (c .before .before .before .before .before .before) .2)
-    (λ c κs. search needs)
-    (λ c κs. search needs)
-    (λ c. search needs)
+    (λ c κs. search needs) (λ c κs. search needs) (λ c. search needs)
     (λ c. rw (c .report2 .ensures) (lines (c .before .before .before .before) .0 (c .before .if2 .taken)))
-    (λ c κs. search needs)
-    (λ c. search needs)
+    (λ c κs. search needs) (λ c. search needs)
     (λ c. let z = lines (c .before .before .before .before) .1 (c .before .if2 .left) in (c .told2 .ensures ∙ z .0, z .1)))

@@ -77,14 +77,9 @@ list-some-spec =
     Inv-loop
     μ-loop
     (λ c. (start listUp list-near list-inside _ _ _, search (length-mapped, needs)))
-    (λ c. search needs)
-    (λ c. search needs)
-    (λ c κs. search needs)
-    (λ c κs. search needs)
-    (λ c. search needs)
+    (λ c. search needs) (λ c. search needs) (λ c κs. search needs) (λ c κs. search needs) (λ c. search needs)
     (λ c. c .before .record-place .ensures .1)
-    (λ c κs. search needs)
-    (λ c. search needs)
+    (λ c κs. search needs) (λ c. search needs)
     (λ c. c .before .before .before .before .before .before .before .before .before .record-place .ensures .1)
     (λ c. search needs)
     returns

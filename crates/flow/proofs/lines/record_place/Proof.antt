@@ -8,8 +8,6 @@ pub record-place-spec : {M : Type 1} → statement M
 record-place-spec =
     tie.close
     (tie.spec
-    (λ c κs. search needs)
-    (λ c κs. search needs)
-    (λ c κs. search needs)
+    (λ c κs. search needs) (λ c κs. search needs) (λ c κs. search needs)
     (λ c. rw (c .record-number .ensures, c .before .channel-of .ensures, c .before .before .group-of .ensures)
     (omega arith, omega arith)))

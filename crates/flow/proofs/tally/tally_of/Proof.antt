@@ -58,9 +58,7 @@ tally-of-spec =
     (λ c. counts-start _ _)
     (λ c κs. search needs)
     counted-requires
-    (λ c. search needs)
-    (λ c. search needs)
-    (λ c κs. search needs)
+    (λ c. search needs) (λ c. search needs) (λ c κs. search needs)
     add-at
     loop-less
     loop-again

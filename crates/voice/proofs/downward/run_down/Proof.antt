@@ -6,10 +6,10 @@ use native.Mathlib.Omega.{arith}
 use borrow.Author.Needs.{needs}
 use denote.Ref.{now}
 use lib.ListN.{length}
-use Rattle.stream.proofs.RunLoop.{finish, start}
+use Rattle.stream.proofs.RunLoop.{finish, start, reports}
 use Rattle.voice.specs.Packet.{callDown, runDown}
 use Rattle.voice.proofs.PacketLaws.{down-inside, down-near}
-use Rattle.voice.proofs.DownLoop.{Downs, down-turn, reports}
+use Rattle.voice.proofs.DownLoop.{Downs, down-turn}
 use Rattle.voice.proofs.downward.run_down.Statement.{statement}
 use Rattle.voice.proofs.downward.run_down.Tie as tie
 

@@ -20,10 +20,8 @@ with-refusals-spec =
     μ-loop
     (λ c. search needs)
     (λ c. (omega arith, omega arith))
-    (λ c. omega arith)
-    (λ c. omega arith)
+    (λ c. omega arith) (λ c. omega arith)
     (λ c κs. omega arith)
-    (λ c. omega arith)
-    (λ c. omega arith)
+    (λ c. omega arith) (λ c. omega arith)
     (λ c. (⊎-elim (λ w. rw (w .2) (w .1 .ensures)) (λ w. rw (w .1) (c .before .before .loop .inv .0)) (c .if1 .came), omega arith))
     (λ c. omega arith))
