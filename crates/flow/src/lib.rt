@@ -5,15 +5,14 @@
 // No function has a `requires`. Each says by the run of the definitions what it reports, what table
 // it leaves and what the output holds after, on every input; and how often each answer came is a
 // count over the words that were read.
-mod by_value;
 mod lines;
 mod tally;
 
-use by_value::run_by_value;
 use channel::RECORDS;
 use channel::Record;
 pub use lines::list_some;
 use stream::Done;
+use table::run_from;
 use tally::tally_of;
 ghost use mathlib.Core.Path.{_≡_};
 ghost use lib.ListN.{length, take};
@@ -59,8 +58,10 @@ pub fn up_some(table: Table, words: &[u32], out: &mut [u32]) -> TableReportAndCo
     ensures output { λ _. ⌜ now (out .exit) ≡ atStart
         (runUp (length (now (out .entry))) (table .records) (now (words .entry)) .sends) (now (out .entry)) ⌝ }
 {
-    let ran = run_by_value(table, words, out);
-    let table = ran.table;
+    let records = table.records;
+    let ran = run_from(records, words, out);
+    let records = ran.records;
+    let table = Table { records };
     let done = ran.done;
     let read = done.read;
     let counts = tally_of(false, &words[..read]);

@@ -20,7 +20,7 @@ ghost use Rattle.table.specs.Table.{tableAfter};
 ghost use Rattle.flow.specs.Listing.{lineUp, runLines};
 
 // Where a packet's record stands, by its first word.
-pub(crate) fn record_place(w: u32) -> usize
+fn record_place(w: u32) -> usize
     ensures place { λ r. ⌜ r ≡ placeOf w ⌝ }
     ensures inside { λ r. ⌜ r < wholeTable ⌝ }
 {

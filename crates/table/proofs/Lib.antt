@@ -4,3 +4,4 @@ pub mod StepLaws
 pub mod Values
 pub mod Turns
 pub mod Calls
+pub mod ArrayLent

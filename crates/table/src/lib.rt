@@ -1,8 +1,9 @@
 // The packets of a stream, one after another, going up over the table that the caller lends: one
-// record is read for each packet, and stored again only where it may have changed. The table is
-// never copied.
+// record is read for each packet, and stored again only where it may have changed. The loop never
+// copies the table.
 //
-// `treat` has no `requires`, and promises the call or the run itself, on every input.
+// `treat` has no `requires`, and promises the call or the run itself, on every input. `run_from`
+// lends it a table that the caller has by value.
 use channel::RECORDS;
 use channel::Record;
 use stream::Done;
@@ -17,7 +18,7 @@ ghost use Rattle.ump.specs.Word.{placeOf};
 ghost use Rattle.stream.specs.Answers.{sent};
 ghost use Rattle.stream.specs.Report.{reported};
 ghost use Rattle.channel.specs.Record.{wholeTable};
-ghost use Rattle.table.specs.Table.{tableAfter};
+ghost use Rattle.table.specs.Table.{runUp, tableAfter};
 ghost use Rattle.table.specs.Progress.{asked, begun, oneCall, outputAfterCall, progressAfter, recordStep};
 ghost use Rattle.table.specs.Progress.{stateAfter, stepped, tableStep, wholeRun};
 
@@ -37,6 +38,12 @@ pub struct RecordAndProgress {
     pub after: Record,
     pub changes: bool,
     pub progress: Progress,
+}
+
+// A table by value after a run, and the report.
+pub struct TableAndReport {
+    pub records: [Record; RECORDS],
+    pub done: Done,
 }
 
 pub fn one_call() -> Job
@@ -138,4 +145,18 @@ pub fn treat(words: &[u32], job: Job, table: &mut [Record], out: &mut [u32]) -> 
         p = one(words, job, p, table, out);
     }
     p.done
+}
+
+// A run up from a table by value, which is lent to the loop.
+pub fn run_from(table: [Record; RECORDS], words: &[u32], out: &mut [u32]) -> TableAndReport
+    ensures report { λ r. ⌜ r .done
+        ≡ reported (runUp (length (now (out .entry))) «table» (now (words .entry))) ⌝ }
+    ensures table { λ r. ⌜ r .records
+        ≡ tableAfter (runUp (length (now (out .entry))) «table» (now (words .entry))) ⌝ }
+    ensures output { λ _. ⌜ now (out .exit) ≡ atStart
+        (runUp (length (now (out .entry))) «table» (now (words .entry)) .sends) (now (out .entry)) ⌝ }
+{
+    let mut records = table;
+    let done = treat(words, whole_run(), &mut records, out);
+    TableAndReport { records, done }
 }

@@ -10,8 +10,8 @@ use Rattle.flow.proofs.up_some.Tie as tie
 
 read-words : tie.Need-slice-aggregate-tally-of
 read-words c =
-    let ws = now (c .before .before .before .before .before .before .before .before .before .args .words) in
-    let r = c .before .before .before .before .before .run-by-value in
+    let ws = now (c .before .before .before .before .before .before .before .before .before .before .args .words) in
+    let r = c .before .before .before .before .before .run-from in
     sym (length-take-le (r .result .done .read) ws (up-reads _ _ ws (r .result .done) (r .ensures .0)))
 
 pub up-some-spec : {M : Type 1} → statement M
@@ -21,4 +21,4 @@ up-some-spec =
     (λ c κs. search needs)
     read-words
     (λ c κs. search needs) (λ c. search needs)
-    (λ c. let e = c .before .before .before .before .before .before .run-by-value .ensures in (e .0, (e .1 .0, (c .tally-of .ensures, e .1 .1)))))
+    (λ c. let e = c .before .before .before .before .before .before .run-from .ensures in (e .0, (e .1 .0, (c .tally-of .ensures, e .1 .1)))))
