@@ -11,12 +11,11 @@ use Rattle.ump.specs.Packet.{cut}
 use Rattle.stream.specs.Answers.{noRoom}
 use Rattle.stream.specs.Call.{Call, sentOf, within}
 use Rattle.stream.specs.Run.{Ran, run}
-use Rattle.stream.proofs.RunLaws.{Does, ample, bounded, roomy, run-does}
+use Rattle.stream.proofs.RunLaws.{Does, ample, bounded, cut-size, roomy, run-does}
 use Rattle.voice.specs.Packet.{callDown}
 use Rattle.table.specs.Table.{tableUp}
 use Rattle.claims.specs.Room.{Room, Roomy}
 use Rattle.claims.proofs.StepLaws.{twice-down, down-stops, twice-up, up-stops}
-use Rattle.claims.proofs.StreamLaws.{cut-size}
 
 abbrev NotNine : ℕ → Type 0
 NotNine a = a ≡ noRoom → ⊥

@@ -1,6 +1,6 @@
--- Streams cut into packets: their words, packets joined again, and the packet that stands first. Assumes nothing.
-use Prim.Native.Nat.{ℕ, zero, suc, pred, _-_, _≤_}
-use mathlib.Core.Path.{_≡_, refl, _∙_}
+-- Streams cut into packets: packets joined again, and the packet that stands first. Assumes nothing.
+use Prim.Native.Nat.{ℕ, zero, suc, _-_, _≤_}
+use mathlib.Core.Path.{_≡_, refl}
 use mathlib.Core.List.{List, [], _∷_, _++_, append-assoc, append-nil}
 use native.Mathlib.Omega.{arith}
 use lib.Dec.{leb}
@@ -10,17 +10,6 @@ use Rattle.ground.specs.Lists.{All, joined}
 use Rattle.ground.proofs.Cases.{choose}
 use Rattle.ump.specs.Packet.{Whole, cut, cutAfter, first, packet, size}
 use Rattle.ump.proofs.PacketLaws.{cut-whole, size-range}
-use Rattle.stream.proofs.RunLaws.{size-of}
-
--- the packets of a stream have its words
-pub cut-size : (s : List ℕ) → size-of (cut s) ≡ length s
-unfolding cut cutAfter
-cut-size s = go 0 s ∙ omega arith
-  where
-    go : (k : ℕ) (s : List ℕ) → size-of (cutAfter k s) ≡ length s - k
-    go k [] = omega arith
-    go (suc k) (w ∷ s) = go k s ∙ omega arith
-    go zero (w ∷ s) = omega (arith, length-take (size w) (w ∷ s), go (pred (size w)) s, size-range w)
 
 -- whole packets joined are cut as they were, whatever follows
 pub cut-joined : (ps : List (List ℕ)) (s : List ℕ) → All Whole ps → cut (joined ps ++ s) ≡ ps ++ cut s

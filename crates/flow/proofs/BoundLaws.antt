@@ -1,42 +1,21 @@
 -- A run reads no more words than it is given, and sends no more than its output holds. Assumes nothing.
-use Prim.Native.Nat.{ℕ, zero, suc, pred, _+_, _-_, _≤_}
-use mathlib.Core.Path.{_≡_, ap, _∙_}
-use mathlib.Core.List.{List, [], _∷_}
+use Prim.Native.Nat.{ℕ, _-_, _≤_}
+use mathlib.Core.Path.{_≡_, ap}
+use mathlib.Core.List.{List}
 use native.Mathlib.Omega.{arith}
 use lib.Dec.{eqb}
-use lib.ListN.{drop, length, length-append, length-drop, length-take}
+use lib.ListN.{drop, length, length-append, length-drop}
 use Rattle.ground.specs.Store.{atStart}
 use Rattle.ground.proofs.Cases.{choose}
-use Rattle.ump.specs.Packet.{cut, cutAfter, size}
-use Rattle.ump.proofs.PacketLaws.{size-range}
 use Rattle.stream.specs.declared.Done.{Done}
-use Rattle.stream.specs.Call.{Call}
 use Rattle.stream.specs.Report.{reported}
-use Rattle.stream.specs.Run.{Ran, run}
-use Rattle.stream.proofs.RunLaws.{by-first-call, size-of}
+use Rattle.stream.specs.Run.{Ran}
+use Rattle.stream.proofs.RunLaws.{words-read}
 use Rattle.channel.specs.declared.Record.{Record}
 use Rattle.channel.specs.Record.{wholeTable}
 use Rattle.voice.specs.Packet.{runDown}
-use Rattle.table.specs.Table.{runBy, runUp}
+use Rattle.table.specs.Table.{runUp}
 use Rattle.flow.specs.Listing.{runLines}
-
--- the packets of a stream have its words
-cut-words : (k : ℕ) (s : List ℕ) → size-of (cutAfter k s) ≡ length s - k
-unfolding cutAfter
-cut-words k [] = omega arith
-cut-words (suc k) (w ∷ s) = cut-words k s ∙ omega arith
-cut-words zero (w ∷ s) = omega (arith, length-take (size w) (w ∷ s), cut-words (pred (size w)) s, size-range w)
-
-packets-read : {T : Type 0} (step : T → List ℕ → Call T) (t : T) (ps : List (List ℕ)) → run step t ps .read ≤ size-of ps
-unfolding run
-packets-read step t [] = omega arith
-packets-read {T} step t (p ∷ ps) =
-    by-first-call step (λ (r : Ran T). r .read ≤ length p + size-of ps) t p ps
-    (λ a ws u e. omega (arith, packets-read step u ps)) (λ a e. omega arith)
-
-words-read : {T : Type 0} (step : T → List ℕ → Call T) (t : T) (ws : List ℕ) → run step t (cut ws) .read ≤ length ws
-unfolding cut
-words-read step t ws = omega (arith, packets-read step t (cut ws), cut-words 0 ws)
 
 -- what is reported of a run is no more than that
 reads-most : {T : Type 0} (r : Ran T) (n : ℕ) (d : Done) → r .read ≤ n → d ≡ reported r → d .read ≤ n

@@ -14,7 +14,7 @@ use Rattle.ground.specs.Store.{atStart}
 use Rattle.ump.specs.Packet.{cut, packet, size}
 use Rattle.stream.specs.declared.Done.{Done}
 use Rattle.stream.specs.Answers.{sent}
-use Rattle.stream.specs.Call.{Call, answerOf, fit, leftOf, readOf, sentOf, within}
+use Rattle.stream.specs.Call.{Call, fit, leftOf, readOf, sentOf, within}
 use Rattle.stream.specs.Report.{counting, reported}
 use Rattle.stream.specs.Run.{run}
 use Rattle.stream.proofs.RunLoop.{DidRun, Inside, Runs, turn}

@@ -1,15 +1,17 @@
 -- Laws of a run, for every step and state. Assumes nothing.
-use Prim.Native.Nat.{ℕ, _+_, _-_, _*_, _≤_}
+use Prim.Native.Nat.{ℕ, zero, suc, pred, _+_, _-_, _*_, _≤_}
 use mathlib.Core.Path.{_≡_, refl, ap, _∙_}
 use mathlib.Core.Bool.{Bool, true, false, cond}
 use mathlib.Core.List.{List, [], _∷_, _++_, append-assoc, foldr, map}
 use native.Mathlib.Omega.{arith}
 use native.Mathlib.Nat.{zero-add, add-assoc}
-use lib.ListN.{length, length-append}
+use lib.ListN.{length, length-append, length-take}
 use lib.Dec.{eqb, leb}
 use borrow.Author.Tests.{le-leb, leb-true, ne-eqb}
 use Rattle.ground.specs.Lists.{sum}
 use Rattle.ground.proofs.Cases.{choose}
+use Rattle.ump.specs.Packet.{cut, cutAfter, size}
+use Rattle.ump.proofs.PacketLaws.{size-range}
 use Rattle.stream.specs.Answers.{noRoom, sent}
 use Rattle.stream.specs.Call.{Call, fit, leftOf, sentOf, stopped, went, within}
 use Rattle.stream.specs.Run.{Ran, run, thenRun}
@@ -28,6 +30,16 @@ does-left I A t (stopped a) h k = h
 -- the words of some packets
 abbrev pub size-of : List (List ℕ) → ℕ
 size-of ps = sum (map (λ (p : List ℕ). length p) ps)
+
+-- the packets of a stream have its words
+pub cut-size : (s : List ℕ) → size-of (cut s) ≡ length s
+unfolding cut cutAfter
+cut-size s = go 0 s ∙ omega arith
+  where
+    go : (k : ℕ) (s : List ℕ) → size-of (cutAfter k s) ≡ length s - k
+    go k [] = omega arith
+    go (suc k) (w ∷ s) = go k s ∙ omega arith
+    go zero (w ∷ s) = omega (arith, length-take (size w) (w ∷ s), go (pred (size w)) s, size-range w)
 
 module _ {T : Type 0} (step : T → List ℕ → Call T) where
   -- a run at its first packet
@@ -100,6 +112,17 @@ module _ {T : Type 0} (step : T → List ℕ → Call T) where
       go : (c : Call T) → Does I A c → Does (λ (u : ℕ × T). I (u .1)) A (fit (s .0) c)
       go (stopped a) l = l
       go (went a ws u) l = choose (Does (λ (v : ℕ × T). I (v .1)) A) (leb (length ws) (s .0)) (λ _. l) (λ _. nine)
+
+  -- a run reads no more words than there are
+  packets-read : (t : T) (ps : List (List ℕ)) → run step t ps .read ≤ size-of ps
+  unfolding run
+  packets-read t [] = omega arith
+  packets-read t (p ∷ ps) =
+      by-first-call (λ (r : Ran T). r .read ≤ length p + size-of ps) t p ps
+      (λ a ws u e. omega (arith, packets-read u ps)) (λ a e. omega arith)
+
+  pub words-read : (t : T) (s : List ℕ) → run step t (cut s) .read ≤ length s
+  words-read t s = omega (arith, packets-read t (cut s), cut-size s)
 
   -- if no call sends more than k words for each word of its packet, no run does
   pub bounded : (k : ℕ) → ((t : T) (p : List ℕ) → length (sentOf (step t p)) ≤ k * length p)

@@ -4,7 +4,7 @@ use Prim.Native.Nat.{_*_, _≤_}
 use mathlib.Core.Path.{sym, _∙_}
 use native.Mathlib.Omega.{arith}
 use borrow.Author.Needs.{needs}
-use lib.ListN.{length, length-take, take}
+use lib.ListN.{length, length-take}
 use lib.Seq.{length-take-le}
 use Rattle.filter.proofs.BufferLaws.{slice-most, words-most}
 use Rattle.filter.proofs.turn.Statement.{statement}
