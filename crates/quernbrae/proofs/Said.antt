@@ -15,7 +15,7 @@ use Rattle.channel.specs.declared.Record.{Record}
 use Rattle.voice.specs.Packet.{callDown, oneDown, packetDown}
 use Rattle.voice.specs.Turn.{next, outputOf, reportOf}
 use Rattle.table.specs.Table.{oneUp, runUp, tableAfter}
-use Rattle.table.specs.Progress.{asked, oneCall, tableStep, wholeRun}
+use Rattle.table.specs.Job.{asked, oneCall, tableStep, wholeRun}
 
 -- of a call or a run that was asked for, and the one that is promised
 abbrev pub Told : Ran (ℕ × List Record) → Ran (ℕ × List Record) → List ℕ → Type 0

@@ -1,6 +1,7 @@
 -- What a walk hands to each function of the crate that it calls, and what it has of the call: the contract's `pre` from the tokens and the references, and from its `post` the result's machine value.
 -- Assumes `Given`.
-use mathlib.Core.Path.{_≡_, refl}
+use mathlib.Core.Path.{_≡_, refl, ap, _∙_}
+use mathlib.Core.Bool.{Bool}
 use Prim.Native.Nat.{ℕ, _<_, _^_}
 use mathlib.Core.List.{List, [], _∷_}
 use lib.ListN.{length}
@@ -14,7 +15,7 @@ use prog.Routine.{Routine}
 use prog.Wp.{Heap}
 use sound.Laws.{∗emp}
 use ghost.Atoms.{Atoms, sem}
-use contract.Monad.{Fun}
+use contract.Monad.{Fun, fact, fact-use, factI}
 use types.Kit.{Given, ‵, ⋆, _$_, _∵_, !, qed, move, drop, join, fsplit, fjoin, suffices, frame, by, done}
 use denote.Laws.{Is}
 use denote.Plain.{uint-vals, uint-tells, uint-makes}
@@ -29,7 +30,8 @@ use denote.Triple.Clauses.{lasts}
 use denote.Triple.Walked.{says}
 use Rattle.channel.specs.declared.Record.{Record}
 use Rattle.table.specs.declared.Progress.{Progress}
-use Rattle.table.specs.declared.RecordAndProgress.{RecordAndProgress}
+use Rattle.stream.specs.declared.Done.{Done}
+use Rattle.voice.specs.declared.RecordAndReport.{RecordAndReport}
 use Rattle.table.specs.declared.Job.{Job}
 use Rattle.ground.specs.Store.{atStart}
 use Rattle.ground.proofs.More.{as-one, as-pair}
@@ -37,15 +39,25 @@ use Rattle.stream.specs.Call.{Call}
 use Rattle.stream.specs.Report.{reported}
 use Rattle.stream.specs.Run.{Ran}
 use Rattle.channel.specs.Record.{wholeTable}
-use Rattle.table.specs.Progress.{after, asked, begun, callAt, outputAfterCall, recordStep, stateAfter, stepped, tableStep}
+use Rattle.table.specs.Job.{asked, recordStep, tableStep}
+use Rattle.table.specs.Next.{outputAfterCall, reportAfterCall, stateAfter, turnAt}
+use Rattle.table.proofs.Turns.{begun, moved}
 use Rattle.table.proofs.TableLaws.{placeAt}
-use Rattle.table.proofs.Values.{R, valsR, madeR, J, valsJ, madeJ, P, valP, valsP, tellsP, madeP, S, valS, valsS, tellsS, D, valD, valsD, tellsD}
+use Rattle.table.proofs.Values.{R, valsR, madeR, J, valsJ, madeJ, P, valP, valsP, tellsP, S, valS, valsS, tellsS, D, valD, valsD, tellsD, madeD}
 use Rattle.ground.proofs.Post.{result-is, result-with, left-one, left-two}
 use Rattle.table.proofs.start as start
 use Rattle.table.proofs.place_of as place
 use Rattle.table.proofs.step as step
+use Rattle.table.proofs.onward as onward
 use Rattle.table.proofs.one as one
 use Rattle.table.proofs.treat as treat
+
+-- two named facts of how far the loop is, as one
+both : {M : Type 1} (𝓤 : URA M) (r p : Progress) → ent 𝓤 (sep 𝓤 (fact 𝓤 (r .done ≡ p .done)) (fact 𝓤 (r .more ≡ p .more))) (fact 𝓤 (r ≡ p))
+both 𝓤 r p = fact-use 𝓤 _ (as-pair 𝓤 _ _) (λ e. factI 𝓤 (r ≡ p) _ (same (e .0) (e .1)))
+  where
+    same : r .done ≡ p .done → r .more ≡ p .more → r ≡ p
+    same e f = ap (λ (d : Done). record { done = d; more = r .more }) e ∙ ap (λ (m : Bool). record { done = p .done; more = m }) f
 
 module _ {M : Type 1} (𝓤 : URA M) (H : Heap 𝓤) (A : Atoms 𝓤) (W : Given 𝓤 H A) (mem : Memory → SProp 𝓤) (run : Routine → Fun 𝓤) where
   -- ---- start
@@ -62,26 +74,46 @@ module _ {M : Type 1} (𝓤 : URA M) (H : Heap 𝓤) (A : Atoms 𝓤) (W : Given
         owned ! usize (Is usize) (uint-makes 𝓤 H A W w64) l _ (refl, l-fits) $ fjoin ! $ owned ! usize (Is usize) (uint-makes 𝓤 H A W w64) n _ (refl, n-fits) $ done !
 
     abbrev p₀ : Progress
-    p₀ = begun j n l
+    p₀ = begun (j .once) n l
 
     pub start-post : (v : Val) → ent 𝓤 (Start .post to-start v) (H .⇛ (guard 𝓤 ((v ≡ valP p₀) × Is P p₀ (valsP p₀)) (emp 𝓤)))
-    start-post = result-is 𝓤 H A W start.ended (start.clauses 𝓤 H A mem run) (to-start .0) tt valsP tellsP p₀ (λ r ws. id⊢ 𝓤 _)
+    start-post = result-is 𝓤 H A W start.ended (start.clauses 𝓤 H A mem run) (to-start .0) tt valsP tellsP p₀ (λ r ws. both 𝓤 r p₀)
+
+  -- ---- onward
+  abbrev pub Onward : Contract 𝓤
+  Onward = tripleOf 𝓤 H A onward.signature (onward.spec 𝓤 H A mem run)
+
+  module _ (l : ℕ) (j : Job) (d e : Done) where
+    abbrev pub to-onward : Onward .Ghost
+    to-onward = ((tt, tt, tt, (l, (j, (d, (e, tt)))), (vint w64 l ∷ [], (valsJ j, (valsD d, (valsD e, tt))))), tt)
+
+    pub onward-pre : l < 2 ^ 64 → Is J j (valsJ j) → Is D d (valsD d) → Is D e (valsD e) → ent 𝓤 (emp 𝓤) (Onward .pre to-onward)
+    onward-pre l-fits is-j is-d is-e =
+        qed W [] ∵ suffices ! _ (∗emp 𝓤 _) $ nothing ! $ frame ! $ nothing ! $ owned ! D (Is D) (madeD 𝓤 H A W) e _ is-e $ fjoin ! $
+        owned ! D (Is D) (madeD 𝓤 H A W) d _ is-d $ fjoin ! $ owned ! J (Is J) (madeJ 𝓤 H A W) j _ is-j $ fjoin ! $
+        owned ! usize (Is usize) (uint-makes 𝓤 H A W w64) l _ (refl, l-fits) $ done !
+
+    abbrev q₀ : Progress
+    q₀ = moved (j .once) l d e
+
+    pub onward-post : (v : Val) → ent 𝓤 (Onward .post to-onward v) (H .⇛ (guard 𝓤 ((v ≡ valP q₀) × Is P q₀ (valsP q₀)) (emp 𝓤)))
+    onward-post = result-is 𝓤 H A W onward.ended (onward.clauses 𝓤 H A mem run) (to-onward .0) tt valsP tellsP q₀ (λ r ws. both 𝓤 r q₀)
 
   -- ---- place_of
   abbrev pub PlaceOf : Contract 𝓤
   PlaceOf = tripleOf 𝓤 H A place.signature (place.spec 𝓤 H A mem run)
 
-  module _ (κ : Lft) (q : Share) (w : RefT (List ℕ)) (p : Progress) where
+  module _ (κ : Lft) (q : Share) (w : RefT (List ℕ)) (p : Done) where
     abbrev pub to-place : PlaceOf .Ghost
-    to-place = (((κ, tt), (q, tt), tt, (w, (p, tt)), (slice-vals w, (valsP p, tt))), tt)
+    to-place = (((κ, tt), (q, tt), tt, (w, (p, tt)), (slice-vals w, (valsD p, tt))), tt)
 
-    pub place-pre : Is P p (valsP p) → ent 𝓤 (sep 𝓤 (A .lft κ q) (sem 𝓤 H A (ShrSlice (named 0) κ u32 .own w (slice-vals w)))) (PlaceOf .pre to-place)
+    pub place-pre : Is D p (valsD p) → ent 𝓤 (sep 𝓤 (A .lft κ q) (sem 𝓤 H A (ShrSlice (named 0) κ u32 .own w (slice-vals w)))) (PlaceOf .pre to-place)
     place-pre is =
         qed W (‵ (flft κ q) ∷ ‵ (ShrSlice (named 0) κ u32 .own w (slice-vals w)) ∷ []) ∵ suffices ! _ (∗emp 𝓤 _) $ nothing ! $ move ! (1 ∷ 0 ∷ []) $ join ! $ frame ! $
-        nothing ! $ owned ! P (Is P) (madeP 𝓤 H A W) p _ is $ fjoin ! $ move ! (1 ∷ 0 ∷ []) $ done !
+        nothing ! $ owned ! D (Is D) (madeD 𝓤 H A W) p _ is $ fjoin ! $ move ! (1 ∷ 0 ∷ []) $ done !
 
     abbrev i : ℕ
-    i = placeAt (w .now) (p .done .read)
+    i = placeAt (w .now) (p .read)
 
     pub place-post : (v : Val) → ent 𝓤 (PlaceOf .post to-place v) (H .⇛ (guard 𝓤 ((v ≡ vint w64 i) × Is usize i (vint w64 i ∷ [])) (alive 𝓤 H A place.signature (κ, tt) (q, tt))))
     place-post = result-is 𝓤 H A W place.ended (place.clauses 𝓤 H A mem run) (to-place .0) tt (uint-vals w64) (uint-tells w64) i (λ r ws. id⊢ 𝓤 _)
@@ -90,21 +122,21 @@ module _ {M : Type 1} (𝓤 : URA M) (H : Heap 𝓤) (A : Atoms 𝓤) (W : Given
   abbrev pub Step : Contract 𝓤
   Step = tripleOf 𝓤 H A step.signature (step.spec 𝓤 H A mem run)
 
-  module _ (κ κ′ : Lft) (q q′ : Share) (w : RefT (List ℕ)) (j : Job) (p : Progress) (r : Record) (y : RefT (List ℕ)) where
+  module _ (κ κ′ : Lft) (q q′ : Share) (w : RefT (List ℕ)) (j : Job) (p : Done) (r : Record) (y : RefT (List ℕ)) where
     abbrev pub to-step : Step .Ghost
-    to-step = (((κ, (κ′, tt)), (q, (q′, tt)), tt, (w, (j, (p, (r, (y, tt))))), (slice-vals w, (valsJ j, (valsP p, (valsR r, (slice-vals y, tt)))))), tt)
+    to-step = (((κ, (κ′, tt)), (q, (q′, tt)), tt, (w, (j, (p, (r, (y, tt))))), (slice-vals w, (valsJ j, (valsD p, (valsR r, (slice-vals y, tt)))))), tt)
 
-    pub step-pre : Is J j (valsJ j) → Is P p (valsP p) → Is R r (valsR r)
+    pub step-pre : Is J j (valsJ j) → Is D p (valsD p) → Is R r (valsR r)
         → ent 𝓤 (⋆ 𝓤 H A (‵ (flft κ q) ∷ ‵ (flft κ′ q′) ∷ ‵ (ShrSlice (named 0) κ u32 .own w (slice-vals w)) ∷ ‵ (MutSlice (named 1) κ′ u32 .own y (slice-vals y)) ∷ [])) (Step .pre to-step)
     step-pre is-j is-p is-r =
         qed W (‵ (flft κ q) ∷ ‵ (flft κ′ q′) ∷ ‵ (ShrSlice (named 0) κ u32 .own w (slice-vals w)) ∷ ‵ (MutSlice (named 1) κ′ u32 .own y (slice-vals y)) ∷ []) ∵ suffices ! _ (∗emp 𝓤 _) $
         nothing ! $ move ! (2 ∷ 0 ∷ []) $ join ! $ move ! (1 ∷ 0 ∷ []) $ join ! $ frame ! $
         -- [the words; the output]
-        nothing ! $ move ! (2 ∷ 0 ∷ []) $ fjoin ! $ owned ! R (Is R) (madeR 𝓤 H A W) r _ is-r $ fjoin ! $ owned ! P (Is P) (madeP 𝓤 H A W) p _ is-p $ fjoin ! $
+        nothing ! $ move ! (2 ∷ 0 ∷ []) $ fjoin ! $ owned ! R (Is R) (madeR 𝓤 H A W) r _ is-r $ fjoin ! $ owned ! D (Is D) (madeD 𝓤 H A W) p _ is-p $ fjoin ! $
         owned ! J (Is J) (madeJ 𝓤 H A W) j _ is-j $ fjoin ! $ move ! (1 ∷ 0 ∷ []) $ done !
 
-    abbrev s′ : RecordAndProgress
-    s′ = stepped j (w .now) p r (y .now)
+    abbrev s′ : RecordAndReport
+    s′ = turnAt (recordStep j) (w .now) p r (y .now)
 
     abbrev os′ : List ℕ
     os′ = outputAfterCall (recordStep j) (w .now) p r (y .now)
@@ -138,24 +170,21 @@ module _ {M : Type 1} (𝓤 : URA M) (H : Heap 𝓤) (A : Atoms 𝓤) (W : Given
     abbrev Y₂ : Fml
     Y₂ = MutSlice (named 2) κ₂ u32 .own y (slice-vals y)
 
-    module _ (p : Progress) where
+    module _ (p : Done) where
       abbrev pub to-one : One .Ghost
-      to-one = ((κs, qs, tt, (w, (j, (p, (x, (y, tt))))), (slice-vals w, (valsJ j, (valsP p, (slice-vals x, (slice-vals y, tt)))))), tt)
+      to-one = ((κs, qs, tt, (w, (j, (p, (x, (y, tt))))), (slice-vals w, (valsJ j, (valsD p, (slice-vals x, (slice-vals y, tt)))))), tt)
 
-      pub one-pre : Is J j (valsJ j) → Is P p (valsP p) → length (x .now) ≡ wholeTable
+      pub one-pre : Is J j (valsJ j) → Is D p (valsD p) → length (x .now) ≡ wholeTable
           → ent 𝓤 (⋆ 𝓤 H A (‵ (flft κ₀ q₀) ∷ ‵ (flft κ₁ q₁) ∷ ‵ (flft κ₂ q₂) ∷ ‵ W₀ ∷ ‵ X₁ ∷ ‵ Y₂ ∷ [])) (One .pre to-one)
       one-pre is-j is so =
           qed W (‵ (flft κ₀ q₀) ∷ ‵ (flft κ₁ q₁) ∷ ‵ (flft κ₂ q₂) ∷ ‵ W₀ ∷ ‵ X₁ ∷ ‵ Y₂ ∷ []) ∵ says ! so $
           nothing ! $ move ! (3 ∷ 0 ∷ []) $ join ! $ move ! (2 ∷ 0 ∷ []) $ join ! $ move ! (1 ∷ 0 ∷ []) $ join ! $ frame ! $
           -- [the words; the table; the output]
-          nothing ! $ move ! (3 ∷ 0 ∷ []) $ fjoin ! $ move ! (2 ∷ 0 ∷ []) $ fjoin ! $ owned ! P (Is P) (madeP 𝓤 H A W) p _ is $ fjoin ! $
+          nothing ! $ move ! (3 ∷ 0 ∷ []) $ fjoin ! $ move ! (2 ∷ 0 ∷ []) $ fjoin ! $ owned ! D (Is D) (madeD 𝓤 H A W) p _ is $ fjoin ! $
           owned ! J (Is J) (madeJ 𝓤 H A W) j _ is-j $ fjoin ! $ move ! (1 ∷ 0 ∷ []) $ done !
 
-      abbrev c₂ : Call (ℕ × List Record)
-      c₂ = callAt (tableStep j) (w .now) p (x .now) (y .now)
-
-      abbrev p′ : Progress
-      p′ = after j (w .now) p c₂
+      abbrev d′ : Done
+      d′ = reportAfterCall (tableStep j) (w .now) p (x .now) (y .now)
 
       abbrev tb′ : List Record
       tb′ = stateAfter (tableStep j) (w .now) p (x .now) (y .now)
@@ -163,10 +192,10 @@ module _ {M : Type 1} (𝓤 : URA M) (H : Heap 𝓤) (A : Atoms 𝓤) (W : Given
       abbrev out′ : List ℕ
       out′ = outputAfterCall (tableStep j) (w .now) p (x .now) (y .now)
 
-      pub one-post : (v : Val) → ent 𝓤 (One .post to-one v) (H .⇛ (guard 𝓤 (((v ≡ valP p′) × Is P p′ (valsP p′)) × ((length tb′ ≡ length (x .now)) × (length out′ ≡ length (y .now))))
+      pub one-post : (v : Val) → ent 𝓤 (One .post to-one v) (H .⇛ (guard 𝓤 (((v ≡ valD d′) × Is D d′ (valsD d′)) × ((length tb′ ≡ length (x .now)) × (length out′ ≡ length (y .now))))
           (sep 𝓤 (alive 𝓤 H A one.signature κs qs) (sem 𝓤 H A (fsep (finally R (x .name) tb′) (finally u32 (y .name) out′))))))
-      one-post = result-with 𝓤 H A W one.ended (one.clauses 𝓤 H A mem run) (to-one .0) tt valsP tellsP p′
-          (λ r ws. (r ≡ p′) × (ws .1 .1 .1 .0 ≡ tb′) × (ws .1 .1 .1 .1 .0 ≡ out′)) ((length tb′ ≡ length (x .now)) × (length out′ ≡ length (y .now))) (fsep (finally R (x .name) tb′) (finally u32 (y .name) out′))
+      one-post = result-with 𝓤 H A W one.ended (one.clauses 𝓤 H A mem run) (to-one .0) tt valsD tellsD d′
+          (λ r ws. (r ≡ d′) × (ws .1 .1 .1 .0 ≡ tb′) × (ws .1 .1 .1 .1 .0 ≡ out′)) ((length tb′ ≡ length (x .now)) × (length out′ ≡ length (y .now))) (fsep (finally R (x .name) tb′) (finally u32 (y .name) out′))
           (λ r ws. as-one 𝓤 _ _ _) (λ r ws e. e .0)
           (λ r ws e. qed W (‵ (lasts one.ended κs (w, (j, (p, (x, (y, tt))))) ws) ∷ []) ∵ fsplit ! $ drop ! $ fsplit ! $ drop ! $ fsplit ! $ drop ! $ by ! (left-two 𝓤 H A W R u32 x y _ tb′ _ out′ (e .1) (e .2)))
 

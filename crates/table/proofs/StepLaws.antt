@@ -15,13 +15,15 @@ use Rattle.stream.specs.Call.{stopped, within}
 use Rattle.stream.proofs.RunLoop.{Inside}
 use Rattle.channel.specs.declared.Record.{Record}
 use Rattle.channel.specs.Record.{empty, wholeTable}
+use Rattle.voice.specs.declared.RecordAndReport.{RecordAndReport}
 use Rattle.voice.specs.Packet.{callUp}
 use Rattle.voice.specs.Turn.{next}
 use Rattle.voice.proofs.PacketLaws.{unchanged-in-room}
 use Rattle.table.specs.declared.Job.{Job}
-use Rattle.table.specs.declared.Progress.{Progress}
+use Rattle.stream.specs.declared.Done.{Done}
 use Rattle.table.specs.Table.{tableUp}
-use Rattle.table.specs.Progress.{after, callAt, moved, outputAfterCall, recordStep, stateAfter, stepped, tableStep}
+use Rattle.table.specs.Job.{recordStep, tableStep}
+use Rattle.table.specs.Next.{outputAfterCall, reportAfterCall, stateAfter, turnAt}
 use Rattle.table.proofs.TableLaws.{own-call, placeAt, table-inside, table-near}
 
 pub place-lt : (t : List Record) (ws : List ℕ) (i : ℕ) → length t ≡ wholeTable → placeAt ws i < length t
@@ -31,25 +33,28 @@ place-lt t ws i l = subst (λ (n : ℕ). placeAt ws i < n) (sym l) (small (getD 
     small w = omega arith
 
 -- what `one` says, from what `step` says
-module _ (j : Job) (ws : List ℕ) (p : Progress) (t : List Record) (out : List ℕ) where
+module _ (j : Job) (ws : List ℕ) (d : Done) (t : List Record) (out : List ℕ) where
   abbrev own : Record
-  own = getD t (placeAt ws (p .done .read)) empty
+  own = getD t (placeAt ws (d .read)) empty
+
+  abbrev turn : RecordAndReport
+  turn = turnAt (recordStep j) ws d own out
 
   pub as-table : length t ≡ wholeTable
-      → (stepped j ws p own out .progress ≡ after j ws p (callAt (tableStep j) ws p t out))
-      × (set t (placeAt ws (p .done .read)) (stepped j ws p own out .after) ≡ stateAfter (tableStep j) ws p t out)
-      × (outputAfterCall (recordStep j) ws p own out ≡ outputAfterCall (tableStep j) ws p t out)
-  unfolding after recordStep tableStep stepped
+      → (turn .done ≡ reportAfterCall (tableStep j) ws d t out)
+      × (set t (placeAt ws (d .read)) (turn .after) ≡ stateAfter (tableStep j) ws d t out)
+      × (outputAfterCall (recordStep j) ws d own out ≡ outputAfterCall (tableStep j) ws d t out)
+  unfolding recordStep tableStep within
   as-table l =
-      let e = own-call (p .done) (next ws (p .done)) (length out - p .done .written) t ws (p .done .read) l in
-      (ap (moved (j .once) (length ws) p) (e .0), e .2, ap (λ (x : List ℕ). written (p .done .written) x out) (e .1))
+      let e = own-call d (next ws d) (length out - d .written) t ws (d .read) l in
+      (e .0, e .2, ap (λ (x : List ℕ). written (d .written) x out) (e .1))
 
   -- a record that is not said to change stays as it was
-  pub unchanged : stepped j ws p own out .changes ≡ false → set t (placeAt ws (p .done .read)) (stepped j ws p own out .after) ≡ t
-  unfolding recordStep stepped within callUp
+  pub unchanged : turn .changes ≡ false → set t (placeAt ws (d .read)) (turn .after) ≡ t
+  unfolding recordStep within callUp
   unchanged h =
-      ap (set t (placeAt ws (p .done .read))) (unchanged-in-room (length out - p .done .written) own (next ws (p .done)) h)
-      ∙ set-getD t (placeAt ws (p .done .read)) empty
+      ap (set t (placeAt ws (d .read))) (unchanged-in-room (length out - d .written) own (next ws d) h)
+      ∙ set-getD t (placeAt ws (d .read)) empty
 
 -- what the loop asks of a step: that it looks at its own packet alone, goes on only with a whole one, and refuses a table
 -- that is not whole

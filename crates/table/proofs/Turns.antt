@@ -18,7 +18,8 @@ use Rattle.ground.proofs.StoreLaws.{start-written}
 use Rattle.ump.specs.Packet.{cut}
 use Rattle.stream.specs.Answers.{noTable, sent}
 use Rattle.stream.specs.Call.{Call, answerOf, leftOf, readOf, sentOf, within}
-use Rattle.stream.specs.Report.{counting, further}
+use Rattle.stream.specs.declared.Done.{Done}
+use Rattle.stream.specs.Report.{counting}
 use Rattle.stream.specs.Run.{Ran, called, run}
 use Rattle.stream.proofs.RunLoop.{DidRun, Runs, Then, finish, start, turn}
 use Rattle.channel.specs.declared.Record.{Record}
@@ -27,8 +28,20 @@ use Rattle.voice.specs.Turn.{next}
 use Rattle.table.proofs.StepLaws.{step-inside, step-near, step-refuses}
 use Rattle.table.specs.declared.Job.{Job}
 use Rattle.table.specs.declared.Progress.{Progress}
-use Rattle.table.specs.Progress.{after, asked, askedBy, begun, callAt, moved, opening, outputAfterCall, stateAfter, tableStep}
+use Rattle.table.specs.Job.{asked, askedBy, tableStep}
+use Rattle.table.specs.Next.{callAt, outputAfterCall, reportAfterCall, stateAfter}
 use Rattle.table.proofs.Values.{P, valsP}
+
+-- How far the loop is: before its first packet, in a table of n records and l words; and after a call that leaves the
+-- report e, where d was the report before it.
+abbrev pub begun : Bool → ℕ → ℕ → Progress
+begun once n l =
+    record { done = counting (cond (eqb n wholeTable) sent noTable) 0 0; more = eqb n wholeTable && (once || ltb 0 l) }
+
+abbrev pub moved : Bool → ℕ → Done → Done → Progress
+moved once l d e =
+    let last = once || eqb (e .read) (d .read) in
+    record { done = counting (cond last (e .answer) sent) (e .read) (e .written); more = not last && ltb (e .read) l }
 
 -- one call alone
 called-did : {T : Type 0} (p : List ℕ) (room : ℕ) (t : T) (out : List ℕ) (c : Call (ℕ × T)) (i m : ℕ) → i ≡ 0 → m ≡ 0
@@ -56,7 +69,7 @@ module _ (j : Job) (ws : List ℕ) (tb₀ : List Record) (out₀ : List ℕ) whe
 
   module _ (l₀ : length tb₀ ≡ wholeTable) (p : Progress) (tb : List Record) (out : List ℕ) where
     abbrev c : Call (ℕ × List Record)
-    c = callAt (tableStep j) ws p tb out
+    c = callAt (tableStep j) ws (p .done) tb out
 
     abbrev k : ℕ
     k = readOf (next ws (p .done)) c
@@ -83,7 +96,7 @@ module _ (j : Job) (ws : List ℕ) (tb₀ : List Record) (out₀ : List ℕ) whe
     at b d = record { done = counting (cond b (answerOf c) sent) (i + k) (n + m); more = not b && d }
 
     -- one more call
-    pub turned : (once : Bool) → length tb′ ≡ length tb → Stands once true p tb out → Next once (moved once (length ws) p (further (p .done) (next ws (p .done)) c))
+    pub turned : (once : Bool) → length tb′ ≡ length tb → Stands once true p tb out → Next once (moved once (length ws) (p .done) (reportAfterCall (tableStep j) ws (p .done) tb out))
     turned true l s =
         let e : called (next ws (p .done)) (length out - n, tb) c ≡ askedBy (tableStep j) true (length out₀) tb₀ ws = rw (s .1 .0, s .1 .1, s .1 .2, s .1 .3, sub-zero (length out₀)) in
         let d = called-did (next ws (p .done)) (length out - n) tb out c i n (s .1 .0) (s .1 .1) in (
@@ -117,7 +130,7 @@ module _ (j : Job) (ws : List ℕ) (tb₀ : List Record) (out₀ : List ℕ) whe
   refused true e = rw (step-refuses j tb₀ (length out₀) ws e) (record { answers = refl; reads = refl; writes = refl; leaves = refl; holds = refl })
   refused false e = rw e (record { answers = refl; reads = refl; writes = refl; leaves = refl; holds = refl })
 
-  pub begins : (once : Bool) → Stands once (opening once (length tb₀) (length ws) .more) (opening once (length tb₀) (length ws)) tb₀ out₀
+  pub begins : (once : Bool) → Stands once (begun once (length tb₀) (length ws) .more) (begun once (length tb₀) (length ws)) tb₀ out₀
   begins once = go once (eqb (length tb₀) wholeTable) refl
     where
       first : Bool → Bool → Progress
@@ -129,7 +142,7 @@ module _ (j : Job) (ws : List ℕ) (tb₀ : List Record) (out₀ : List ℕ) whe
       goes l false false e = rw (asked-run (tableStep j) (length out₀) tb₀ ws l) (finish (tableStep j) (step-near j) (step-inside j) tb₀ ws out₀ tb₀ out₀ 0 0 (start (tableStep j) (step-near j) (step-inside j) tb₀ ws out₀) (ltb-false 0 (length ws) e))
 
       go : (once b : Bool) → eqb (length tb₀) wholeTable ≡ b
-          → let q = cond b (first once (ltb 0 (length ws))) (record { done = counting noTable 0 0; more = false }) in Stands once (q .more) q tb₀ out₀
+          → let q : Progress = record { done = counting (cond b sent noTable) 0 0; more = b && (once || ltb 0 (length ws)) } in Stands once (q .more) q tb₀ out₀
       go once true e = goes (eqb-true (length tb₀) wholeTable e) once (ltb 0 (length ws)) refl
       go once false e = refused once e
 
@@ -142,9 +155,9 @@ pub record State : Type 0 where
 abbrev pub nextOf : Job → List ℕ → State → State
 nextOf j ws s =
     record {
-      p = after j ws (s .p) (callAt (tableStep j) ws (s .p) (s .tb) (s .out));
-      tb = stateAfter (tableStep j) ws (s .p) (s .tb) (s .out);
-      out = outputAfterCall (tableStep j) ws (s .p) (s .tb) (s .out);
+      p = moved (j .once) (length ws) (s .p .done) (reportAfterCall (tableStep j) ws (s .p .done) (s .tb) (s .out));
+      tb = stateAfter (tableStep j) ws (s .p .done) (s .tb) (s .out);
+      out = outputAfterCall (tableStep j) ws (s .p .done) (s .tb) (s .out);
     }
 
 module _ (ws : List ℕ) (j : Job) (tb : List Record) (out : List ℕ) where
@@ -169,7 +182,6 @@ module _ (ws : List ℕ) (j : Job) (tb : List Record) (out : List ℕ) where
 
   pub stepped : (t : Turn) → t .st .p .more ≡ true → let n = nextOf j ws (t .st) in length (n .tb) ≡ length (t .st .tb)
       → Stands j ws tb out (j .once) (n .p .more) (n .p) (n .tb) (n .out) × (n .p .more ≡ true → (t .st .p .done .read < n .p .done .read) × (n .p .done .read ≤ length ws))
-  unfolding after
   stepped t e l = turned j ws tb out (sym (t .tb-long) ∙ going t e .0) (t .st .p) (t .st .tb) (t .st .out) (j .once) l (going t e)
 
   -- the turn after one that has more
@@ -202,10 +214,9 @@ module _ (ws : List ℕ) (j : Job) (tb : List Record) (out : List ℕ) where
   ended t e = subst (λ (b : Bool). Stands j ws tb out (j .once) b (t .st .p) (t .st .tb) (t .st .out)) e (t .stands)
 
   abbrev pub begun-at : State
-  begun-at = record { p = begun j (length tb) (length ws); tb = tb; out = out }
+  begun-at = record { p = begun (j .once) (length tb) (length ws); tb = tb; out = out }
 
   pub opens : Stands j ws tb out (j .once) (begun-at .p .more) (begun-at .p) tb out
-  unfolding begun
   opens = begins j ws tb out (j .once)
 
   abbrev pub first-turn : Is P (begun-at .p) (valsP (begun-at .p)) → Turn

@@ -27,15 +27,15 @@ use Rattle.stream.specs.declared.Done.{Done}
 use Rattle.stream.proofs.Done as TD
 use Rattle.stream.proofs.Done.Laws as TD′
 use Rattle.table.specs.declared.Progress.{Progress}
-use Rattle.table.specs.declared.RecordAndProgress.{RecordAndProgress}
+use Rattle.voice.specs.declared.RecordAndReport.{RecordAndReport}
 use Rattle.table.specs.declared.Job.{Job}
 use Rattle.table.specs.declared.TableAndReport.{TableAndReport}
 use Rattle.table.proofs.Job as TJ
 use Rattle.table.proofs.Job.Laws as TJ′
 use Rattle.table.proofs.Progress as TP
 use Rattle.table.proofs.Progress.Laws as TP′
-use Rattle.table.proofs.RecordAndProgress as TS
-use Rattle.table.proofs.RecordAndProgress.Laws as TS′
+use Rattle.voice.proofs.RecordAndReport as TS
+use Rattle.voice.proofs.RecordAndReport.Laws as TS′
 use Rattle.table.proofs.TableAndReport as TT
 use Rattle.table.proofs.TableAndReport.Laws as TT′
 
@@ -78,25 +78,6 @@ valsP = LL.vals TP.the-type TP′.the-laws
 abbrev pub tellsP : Tells P (Is P) valsP
 tellsP = LL.tells TP.the-type TP′.the-laws
 
--- ---- RecordAndProgress, and its parts
-abbrev pub S : RattleType
-S = TS.the-row
-
-abbrev pub valS : RecordAndProgress → Val
-valS = LL.val TS.the-type TS′.the-laws
-
-abbrev pub valsS : RecordAndProgress → List Val
-valsS = LL.vals TS.the-type TS′.the-laws
-
-abbrev pub tellsS : Tells S (Is S) valsS
-tellsS = LL.tells TS.the-type TS′.the-laws
-
-pub after-is : (s : RecordAndProgress) → Is S s (valsS s) → Is R (s .after) (valsR (s .after))
-after-is s g = LL.owed TS.the-type TS′.the-laws s (valsS s) g .0
-
-pub progress-is : (s : RecordAndProgress) → Is S s (valsS s) → Is P (s .progress) (valsP (s .progress))
-progress-is s g = LL.owed TS.the-type TS′.the-laws s (valsS s) g .1 .1 .0
-
 -- ---- Done
 abbrev pub D : RattleType
 D = TD.the-row
@@ -112,6 +93,25 @@ tellsD = LL.tells TD.the-type TD′.the-laws
 
 pub done-is : (p : Progress) → Is P p (valsP p) → Is D (p .done) (valsD (p .done))
 done-is p g = LL.owed TP.the-type TP′.the-laws p (valsP p) g .0
+
+-- ---- RecordAndReport, and its parts
+abbrev pub S : RattleType
+S = TS.the-row
+
+abbrev pub valS : RecordAndReport → Val
+valS = LL.val TS.the-type TS′.the-laws
+
+abbrev pub valsS : RecordAndReport → List Val
+valsS = LL.vals TS.the-type TS′.the-laws
+
+abbrev pub tellsS : Tells S (Is S) valsS
+tellsS = LL.tells TS.the-type TS′.the-laws
+
+pub after-is : (s : RecordAndReport) → Is S s (valsS s) → Is R (s .after) (valsR (s .after))
+after-is s g = LL.owed TS.the-type TS′.the-laws s (valsS s) g .0
+
+pub report-is : (s : RecordAndReport) → Is S s (valsS s) → Is D (s .done) (valsD (s .done))
+report-is s g = LL.owed TS.the-type TS′.the-laws s (valsS s) g .1 .1 .0
 
 -- ---- an array of records
 abbrev pub valArray : List Record → Val
@@ -155,7 +155,7 @@ module _ {M : Type 1} (𝓤 : URA M) (H : Heap 𝓤) (A : Atoms 𝓤) (W : Given
   pub typedP : (p : Progress) → Is P p (valsP p) → Holds (hasTy TP′.mir (valP p)) × WT (valP p)
   typedP p g = LL.lawful TP.the-type TP′.the-laws 𝓤 H A W .typed p (valsP p) g .0
 
-  pub typedS : (s : RecordAndProgress) → Is S s (valsS s) → Holds (hasTy TS′.mir (valS s)) × WT (valS s)
+  pub typedS : (s : RecordAndReport) → Is S s (valsS s) → Holds (hasTy TS′.mir (valS s)) × WT (valS s)
   typedS s g = LL.lawful TS.the-type TS′.the-laws 𝓤 H A W .typed s (valsS s) g .0
 
   pub typedD : (d : Done) → Is D d (valsD d) → Holds (hasTy TD′.mir (valD d)) × WT (valD d)

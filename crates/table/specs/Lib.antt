@@ -1,2 +1,3 @@
 pub mod Table
-pub mod Progress
+pub mod Job
+pub mod Next

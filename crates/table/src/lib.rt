@@ -10,17 +10,19 @@ use stream::Done;
 use stream::NO_TABLE;
 use stream::SENT;
 use stream::report;
+use voice::RecordAndReport;
 ghost use mathlib.Core.Path.{_≡_};
-ghost use mathlib.Core.Bool.{cond};
+ghost use mathlib.Core.Bool.{cond, not, _&&_, _||_};
+ghost use lib.Dec.{eqb, ltb};
 ghost use lib.ListN.{getD, length};
 ghost use Rattle.ground.specs.Store.{atStart};
 ghost use Rattle.ump.specs.Word.{placeOf};
-ghost use Rattle.stream.specs.Answers.{sent};
-ghost use Rattle.stream.specs.Report.{reported};
+ghost use Rattle.stream.specs.Answers.{noTable, sent};
+ghost use Rattle.stream.specs.Report.{counting, reported};
 ghost use Rattle.channel.specs.Record.{wholeTable};
 ghost use Rattle.table.specs.Table.{runUp, tableAfter};
-ghost use Rattle.table.specs.Progress.{asked, begun, oneCall, outputAfterCall, progressAfter, recordStep};
-ghost use Rattle.table.specs.Progress.{stateAfter, stepped, tableStep, wholeRun};
+ghost use Rattle.table.specs.Job.{asked, oneCall, recordStep, tableStep, wholeRun};
+ghost use Rattle.table.specs.Next.{outputAfterCall, reportAfterCall, stateAfter, turnAt};
 
 // What the loop is told: whether it is to make one call only.
 pub struct Job {
@@ -28,16 +30,9 @@ pub struct Job {
 }
 
 // How far a call or a run is: the report so far, and whether another packet is to be treated.
-pub struct Progress {
-    pub done: Done,
-    pub more: bool,
-}
-
-// The record after a packet, whether it may have changed, and how far the run is then.
-pub struct RecordAndProgress {
-    pub after: Record,
-    pub changes: bool,
-    pub progress: Progress,
+struct Progress {
+    done: Done,
+    more: bool,
 }
 
 // A table by value after a run, and the report.
@@ -58,9 +53,10 @@ pub fn whole_run() -> Job
     Job { once: false }
 }
 
-// Before the first packet of a table of n records.
+// Before the first packet: a call is made whatever there is, a run goes on where there is a word.
 fn start(n: usize, words: usize, job: Job) -> Progress
-    ensures { λ r. ⌜ r ≡ begun job n words ⌝ }
+    ensures report { λ r. ⌜ r .done ≡ counting (cond (eqb n wholeTable) sent noTable) 0 0 ⌝ }
+    ensures more { λ r. ⌜ r .more ≡ (eqb n wholeTable && (job .once || ltb 0 words)) ⌝ }
 {
     if n == RECORDS {
         return Progress {
@@ -75,12 +71,40 @@ fn start(n: usize, words: usize, job: Job) -> Progress
 }
 
 // Where the next packet's record stands.
-fn place_of(words: &[u32], p: Progress) -> usize
-    ensures { λ r. ⌜ r ≡ placeOf (getD (now (words .entry)) (p .done .read) 0) ⌝ }
+fn place_of(words: &[u32], past: Done) -> usize
+    ensures { λ r. ⌜ r ≡ placeOf (getD (now (words .entry)) (past .read) 0) ⌝ }
 {
-    let done = p.done;
-    let w = ump::word_at(words, done.read);
+    let w = ump::word_at(words, past.read);
     ump::record_number(ump::group_of(w), ump::channel_of(w))
+}
+
+// The call at the next packet, with its record. What the job may ask of a packet is asked here; today it asks nothing.
+fn step(words: &[u32], job: Job, past: Done, record: Record, out: &mut [u32]) -> RecordAndReport
+    ensures turn { λ r. ⌜ r ≡ turnAt (recordStep job) (now (words .entry)) past «record» (now (out .entry)) ⌝ }
+    ensures output { λ _. ⌜ now (out .exit)
+        ≡ outputAfterCall (recordStep job) (now (words .entry)) past «record» (now (out .entry)) ⌝ }
+{
+    voice::up(words, past, record, out)
+}
+
+// The call at the next packet, with the table, which is a whole one.
+fn one(words: &[u32], job: Job, past: Done, table: &mut [Record], out: &mut [u32]) -> Done
+    requires { ⌜ length (now table) ≡ wholeTable ⌝ }
+    ensures report { λ r. ⌜ r
+        ≡ reportAfterCall (tableStep job) (now (words .entry)) past (now (table .entry)) (now (out .entry)) ⌝ }
+    ensures table { λ _. ⌜ now (table .exit)
+        ≡ stateAfter (tableStep job) (now (words .entry)) past (now (table .entry)) (now (out .entry)) ⌝ }
+    ensures output { λ _. ⌜ now (out .exit)
+        ≡ outputAfterCall (tableStep job) (now (words .entry)) past (now (table .entry)) (now (out .entry)) ⌝ }
+{
+    let i = place_of(words, past);
+    let s = step(words, job, past, table[i], out);
+    if s.changes {
+        table[i] = s.after;
+        s.done
+    } else {
+        s.done
+    }
 }
 
 fn answer_of(last: bool, answer: u32) -> u32
@@ -89,45 +113,18 @@ fn answer_of(last: bool, answer: u32) -> u32
     if last { answer } else { SENT }
 }
 
-// One packet, with its record.
-fn step(words: &[u32], job: Job, p: Progress, record: Record, out: &mut [u32]) -> RecordAndProgress
-    ensures step { λ r. ⌜ r ≡ stepped job (now (words .entry)) p «record» (now (out .entry)) ⌝ }
-    ensures output { λ _. ⌜ now (out .exit)
-        ≡ outputAfterCall (recordStep job) (now (words .entry)) p «record» (now (out .entry)) ⌝ }
+// After a call. One that is the only one, or that read nothing, is the last and has the answer; a run that goes on has
+// none yet.
+fn onward(words: usize, job: Job, past: Done, done: Done) -> Progress
+    ensures report { λ r. ⌜ r .done ≡ counting
+        (cond (job .once || eqb (done .read) (past .read)) (done .answer) sent) (done .read) (done .written) ⌝ }
+    ensures more { λ r. ⌜ r .more
+        ≡ (not (job .once || eqb (done .read) (past .read)) && ltb (done .read) words) ⌝ }
 {
-    let past = p.done;
-    let turned = voice::up(words, past, record, out);
-    let after = turned.after;
-    let done = turned.done;
     let last = job.once | (done.read == past.read);
-    let answer = answer_of(last, done.answer);
-    RecordAndProgress {
-        after,
-        changes: turned.changes,
-        progress: Progress {
-            done: report(answer, done.read, done.written),
-            more: !last & (done.read < words.len()),
-        },
-    }
-}
-
-// One call with the table, which is a whole one.
-fn one(words: &[u32], job: Job, p: Progress, table: &mut [Record], out: &mut [u32]) -> Progress
-    requires { ⌜ length (now table) ≡ wholeTable ⌝ }
-    ensures progress { λ r. ⌜ r
-        ≡ progressAfter job (now (words .entry)) p (now (table .entry)) (now (out .entry)) ⌝ }
-    ensures table { λ _. ⌜ now (table .exit)
-        ≡ stateAfter (tableStep job) (now (words .entry)) p (now (table .entry)) (now (out .entry)) ⌝ }
-    ensures output { λ _. ⌜ now (out .exit)
-        ≡ outputAfterCall (tableStep job) (now (words .entry)) p (now (table .entry)) (now (out .entry)) ⌝ }
-{
-    let i = place_of(words, p);
-    let s = step(words, job, p, table[i], out);
-    if s.changes {
-        table[i] = s.after;
-        s.progress
-    } else {
-        s.progress
+    Progress {
+        done: report(answer_of(last, done.answer), done.read, done.written),
+        more: !last & (done.read < words),
     }
 }
 
@@ -142,7 +139,8 @@ pub fn treat(words: &[u32], job: Job, table: &mut [Record], out: &mut [u32]) -> 
 {
     let mut p = start(table.len(), words.len(), job);
     while p.more {
-        p = one(words, job, p, table, out);
+        let done = one(words, job, p.done, table, out);
+        p = onward(words.len(), job, p.done, done);
     }
     p.done
 }

@@ -8,7 +8,7 @@ use Rattle.ground.specs.Store.{atStart}
 use Rattle.stream.specs.Report.{reported}
 use Rattle.stream.specs.Run.{Ran}
 use Rattle.table.specs.Table.{tableAfter}
-use Rattle.table.specs.Progress.{asked, oneCall}
+use Rattle.table.specs.Job.{asked, oneCall}
 use Rattle.table.proofs.Job.Laws as TJ′
 use Rattle.table.proofs.Values.{R, J, valJ, valsJ, tellsJ, typedJ, D, valD, valsD, typedD, madeD}
 use Rattle.ground.proofs.More.{says3, use6}

@@ -4,17 +4,17 @@ use Rattle.ground.proofs.Walk.{_≡_, refl, sym, ap, subst, ℕ, _-_, _<_, [], 
 use Rattle.channel.specs.declared.Record.{Record}
 use Rattle.channel.specs.Record.{empty, wholeTable}
 use Rattle.channel.proofs.Record.Laws as TR′
-use Rattle.table.specs.declared.Progress.{Progress}
-use Rattle.table.specs.declared.RecordAndProgress.{RecordAndProgress}
+use Rattle.stream.specs.declared.Done.{Done}
+use Rattle.voice.specs.declared.RecordAndReport.{RecordAndReport}
 use Rattle.table.specs.declared.Job.{Job}
-use Rattle.stream.specs.Call.{Call}
 use Rattle.table.proofs.TableLaws.{placeAt}
 use Rattle.table.proofs.StepLaws.{as-table, place-lt, unchanged}
-use Rattle.table.specs.Progress.{after, callAt, outputAfterCall, recordStep, stateAfter, stepped, tableStep}
+use Rattle.table.specs.Job.{recordStep, tableStep}
+use Rattle.table.specs.Next.{outputAfterCall, reportAfterCall, stateAfter, turnAt}
 use Rattle.table.proofs.Job.Laws as TJ′
-use Rattle.table.proofs.Progress.Laws as TP′
-use Rattle.table.proofs.RecordAndProgress.Laws as TS′
-use Rattle.table.proofs.Values.{R, valsR, tellsR, typedR, madeR, J, valJ, valsJ, tellsJ, typedJ, madeJ, P, valP, valsP, tellsP, typedP, madeP, S, valS, valsS, typedS, after-is, progress-is, tyWords, tyOut, tyOutRef, tyTable, bytes-fit}
+use Rattle.stream.proofs.Done.Laws as TD′
+use Rattle.voice.proofs.RecordAndReport.Laws as TS′
+use Rattle.table.proofs.Values.{R, valsR, tellsR, typedR, madeR, J, valJ, valsJ, tellsJ, typedJ, madeJ, D, valD, valsD, tellsD, typedD, madeD, S, valS, valsS, typedS, after-is, report-is, tyWords, tyOut, tyOutRef, tyTable, bytes-fit}
 use Rattle.ground.proofs.More.{says3, use4}
 use Rattle.ground.proofs.Cases.{not-held}
 use Rattle.table.proofs.one.Code.Mir as body
@@ -31,10 +31,10 @@ use Rattle.table.proofs.one.Statement as stated
 use Rattle.table.proofs.one.Code as code
 
 abbrev stayed : Stays (one.ended .signature .params) (one.ended .kept)
-stayed = (stay-none-slice (0 ∷ []) tt (plain (λ _. u32)) yes, (stay-none (λ _. J) yes, (stay-none (λ _. P) yes, (stay-slice (1 ∷ []) tt (plain (λ _. R)), (gave-slice (2 ∷ []) tt (plain (λ _. u32)), tt)))))
+stayed = (stay-none-slice (0 ∷ []) tt (plain (λ _. u32)) yes, (stay-none (λ _. J) yes, (stay-none (λ _. D) yes, (stay-slice (1 ∷ []) tt (plain (λ _. R)), (gave-slice (2 ∷ []) tt (plain (λ _. u32)), tt)))))
 
-module _ {M : Type 1} (𝓤 : URA M) (H : Heap 𝓤) (A : Atoms 𝓤) (W : Given 𝓤 H A) (at-mem : Memory → SProp 𝓤) (run : Routine → Fun 𝓤) (κ₀ κ₁ κ₂ : Lft) (q₀ q₁ q₂ : Share) (w : RefT (List ℕ)) (j : Job) (p : Progress) (b o : ℕ) (γ : GName) (tb : List Record) (y : RefT (List ℕ))
-    (room₀ : Room u32 (length (w .now))) (is-j : Is J j (valsJ j)) (is-p : Is P p (valsP p)) (room : Room R (length tb)) (room₂ : Room u32 (length (y .now))) (so : length tb ≡ wholeTable) where
+module _ {M : Type 1} (𝓤 : URA M) (H : Heap 𝓤) (A : Atoms 𝓤) (W : Given 𝓤 H A) (at-mem : Memory → SProp 𝓤) (run : Routine → Fun 𝓤) (κ₀ κ₁ κ₂ : Lft) (q₀ q₁ q₂ : Share) (w : RefT (List ℕ)) (j : Job) (p : Done) (b o : ℕ) (γ : GName) (tb : List Record) (y : RefT (List ℕ))
+    (room₀ : Room u32 (length (w .now))) (is-j : Is J j (valsJ j)) (is-p : Is D p (valsD p)) (room : Room R (length tb)) (room₂ : Room u32 (length (y .now))) (so : length tb ≡ wholeTable) where
   abbrev x : List Record → RefT (List Record)
   x l = record { ptr = (b, o); name = γ; now = l }
 
@@ -42,13 +42,13 @@ module _ {M : Type 1} (𝓤 : URA M) (H : Heap 𝓤) (A : Atoms 𝓤) (W : Given
   s₁ = sliceVal (b, o) (length tb)
 
   abbrev Arg : Type 0
-  Arg = RefT (List ℕ) × (Job × (Progress × (RefT (List Record) × (RefT (List ℕ) × Unit {0}))))
+  Arg = RefT (List ℕ) × (Job × (Done × (RefT (List Record) × (RefT (List ℕ) × Unit {0}))))
 
   abbrev a : Arg
   a = (w, (j, (p, (x tb, (y, tt)))))
 
   abbrev at : List Val × (List Val × (List Val × (List Val × (List Val × Unit {0}))))
-  at = (slice-vals w, (valsJ j, (valsP p, (s₁ ∷ [], (slice-vals y, tt)))))
+  at = (slice-vals w, (valsJ j, (valsD p, (s₁ ∷ [], (slice-vals y, tt)))))
 
   abbrev Bound : walkOf 𝓤 H A one.ended stayed (one.clauses 𝓤 H A at-mem run) .Ghost
   Bound = (((κ₀, (κ₁, (κ₂, tt))), (q₀, (q₁, (q₂, tt))), tt, a, at), tt)
@@ -65,16 +65,16 @@ module _ {M : Type 1} (𝓤 : URA M) (H : Heap 𝓤) (A : Atoms 𝓤) (W : Given
 
   -- where the record stands, what stands there, and what `step` makes of it
   abbrev i : ℕ
-  i = placeAt (w .now) (p .done .read)
+  i = placeAt (w .now) (p .read)
 
   within : i < length tb
-  within = place-lt tb (w .now) (p .done .read) so
+  within = place-lt tb (w .now) (p .read) so
 
   abbrev old : Record
   old = getD tb i empty
 
-  abbrev new : RecordAndProgress
-  new = stepped j (w .now) p old (y .now)
+  abbrev new : RecordAndReport
+  new = turnAt (recordStep j) (w .now) p old (y .now)
 
   abbrev new-out : List ℕ
   new-out = outputAfterCall (recordStep j) (w .now) p old (y .now)
@@ -82,46 +82,43 @@ module _ {M : Type 1} (𝓤 : URA M) (H : Heap 𝓤) (A : Atoms 𝓤) (W : Given
   abbrev to : Step 𝓤 H A W at-mem run .Ghost
   to = to-step 𝓤 H A W at-mem run κ₀ κ₂ q₀ q₂ w j p old y
 
-  abbrev c₂ : Call (ℕ × List Record)
-  c₂ = callAt (tableStep j) (w .now) p tb (y .now)
-
-  abbrev Said : Progress → List Record → List ℕ → Type 0
-  Said r zs os = (r ≡ after j (w .now) p c₂) × (zs ≡ stateAfter (tableStep j) (w .now) p tb (y .now)) × (os ≡ outputAfterCall (tableStep j) (w .now) p tb (y .now))
+  abbrev Said : Done → List Record → List ℕ → Type 0
+  Said r zs os = (r ≡ reportAfterCall (tableStep j) (w .now) p tb (y .now)) × (zs ≡ stateAfter (tableStep j) (w .now) p tb (y .now)) × (os ≡ outputAfterCall (tableStep j) (w .now) p tb (y .now))
 
   -- a record that is stored, and one that stays
-  said : Said (new .progress) (set tb i (new .after)) new-out
+  said : Said (new .done) (set tb i (new .after)) new-out
   said = as-table j (w .now) p tb (y .now) so
 
-  same : new .changes ≡ false → Said (new .progress) (set tb i old) new-out
+  same : new .changes ≡ false → Said (new .done) (set tb i old) new-out
   same e = let z = said in (z .0, set-getD tb i empty ∙ sym (unchanged j (w .now) p tb (y .now) e) ∙ z .1, z .2)
 
-  exits : (r : Progress) → Is P r (valsP r) → (zs : List Record) (os : List ℕ) → length zs ≡ length tb → length os ≡ length (y .now) → Said r zs os
-      → ent 𝓤 (⋆ 𝓤 H A (‵ (flft κ₀ q₀) ∷ ‵ (flft κ₁ q₁) ∷ ‵ (flft κ₂ q₂) ∷ ‵ Own₀ ∷ ‵ (fobs γ (codedHoleys R .code (heres R zs))) ∷ ‵ (fbor κ₁ (Held R (length zs) b o γ)) ∷ ‵ (finally u32 (y .name) os) ∷ [])) (Post (valP r))
+  exits : (r : Done) → Is D r (valsD r) → (zs : List Record) (os : List ℕ) → length zs ≡ length tb → length os ≡ length (y .now) → Said r zs os
+      → ent 𝓤 (⋆ 𝓤 H A (‵ (flft κ₀ q₀) ∷ ‵ (flft κ₁ q₁) ∷ ‵ (flft κ₂ q₂) ∷ ‵ Own₀ ∷ ‵ (fobs γ (codedHoleys R .code (heres R zs))) ∷ ‵ (fbor κ₁ (Held R (length zs) b o γ)) ∷ ‵ (finally u32 (y .name) os) ∷ [])) (Post (valD r))
   exits r is-r zs os e-t e-o told =
       qed W (‵ (flft κ₀ q₀) ∷ ‵ (flft κ₁ q₁) ∷ ‵ (flft κ₂ q₂) ∷ ‵ Own₀ ∷ ‵ (fobs γ (codedHoleys R .code (heres R zs))) ∷ ‵ (fbor κ₁ (Held R (length zs) b o γ)) ∷ ‵ (finally u32 (y .name) os) ∷ []) ∵
-      suffices ! _ (ends-at 𝓤 H A one.ended stayed (one.clauses 𝓤 H A at-mem run) W Bound (valP r) r (tt, (tt, (tt, (zs, (os, tt))))) (tt, (tt, (tt, (e-t, (e-o, tt)))))) $ says3 ! told $
+      suffices ! _ (ends-at 𝓤 H A one.ended stayed (one.clauses 𝓤 H A at-mem run) W Bound (valD r) r (tt, (tt, (tt, (zs, (os, tt))))) (tt, (tt, (tt, (e-t, (e-o, tt)))))) $ says3 ! told $
       nothing ! $ move ! (3 ∷ 0 ∷ []) $ join ! $ move ! (2 ∷ 0 ∷ []) $ join ! $ move ! (1 ∷ 0 ∷ []) $ join ! $ frame ! $
       -- [the words; obs; the borrow; the last output]
       nothing ! $ move ! (4 ∷ 0 ∷ []) $ fjoin ! $ move ! (2 ∷ 3 ∷ []) $
       fjoin ! $ pureI ! (at-slice R (x zs) (s₁ ∷ [])) (tt, (tt, tt)) (ap (λ (m : ℕ). sliceVal (b, o) m ∷ []) (sym e-t), subst (Room R) (sym e-t) room) $ fjoin ! $ fjoin ! $
-      owned ! P (Is P) (madeP 𝓤 H A W) p _ is-p $ fjoin ! $ owned ! J (Is J) (madeJ 𝓤 H A W) j _ is-j $ fjoin ! $ move ! (1 ∷ 0 ∷ []) $ fjoin ! $ frame ! $
-      owned ! P (Is P) (madeP 𝓤 H A W) r _ is-r $ done !
+      owned ! D (Is D) (madeD 𝓤 H A W) p _ is-p $ fjoin ! $ owned ! J (Is J) (madeJ 𝓤 H A W) j _ is-j $ fjoin ! $ move ! (1 ∷ 0 ∷ []) $ fjoin ! $ frame ! $
+      owned ! D (Is D) (madeD 𝓤 H A W) r _ is-r $ done !
 
   module _ (C : Calls 𝓤 H) (Λ : Loops 𝓤 H) (l0 l1 l2 l3 l4 l5 l6 l7 l8 l9 l10 l11 l12 l13 l14 l15 l16 : ℕ) where
     abbrev E : Env 𝓤 H
-    E = (TP′.mir, l0) ∷ ((tyWords (named 0)), l1) ∷ (TJ′.mir, l2) ∷ (TP′.mir, l3) ∷ ((tyTable (named 1)), l4) ∷ ((tyOut (named 2)), l5) ∷ ((tyInt w64), l6) ∷ (TS′.mir, l7) ∷ ((tyInt w64), l8) ∷ (tyPtr, l9) ∷ (TR′.mir, l10) ∷ (tyOutRef, l11) ∷ ((tyOut erased), l12) ∷ (tyBool, l13) ∷ (TP′.mir, l14) ∷ ((tyInt w64), l15) ∷ (tyPtr, l16) ∷ []
+    E = (TD′.mir, l0) ∷ ((tyWords (named 0)), l1) ∷ (TJ′.mir, l2) ∷ (TD′.mir, l3) ∷ ((tyTable (named 1)), l4) ∷ ((tyOut (named 2)), l5) ∷ ((tyInt w64), l6) ∷ (TS′.mir, l7) ∷ ((tyInt w64), l8) ∷ (tyPtr, l9) ∷ (TR′.mir, l10) ∷ (tyOutRef, l11) ∷ ((tyOut erased), l12) ∷ (tyBool, l13) ∷ (TD′.mir, l14) ∷ ((tyInt w64), l15) ∷ (tyPtr, l16) ∷ []
 
     -- after the branch: how far the run is stands in the last local but two
-    leaves : (r : Progress) → Is P r (valsP r) → (zs : List Record) (os : List ℕ) → length zs ≡ length tb → length os ≡ length (y .now) → Said r zs os
-        → Sq W (‵ (fobs γ (codedHoleys R .code (heres R zs))) ∷ ‵ (fbor κ₁ (Held R (length zs) b o γ)) ∷ ‵ (flft κ₀ q₀) ∷ ‵ (flft κ₁ q₁) ∷ ‵ (flft κ₂ q₂) ∷ ‵ Own₀ ∷ ‵ (finally u32 (y .name) os) ∷ ‵ (froom tyPtr l16 0) ∷ ‵ (fdies tyPtr l16) ∷ ‵ (froom (tyInt w64) l15 0) ∷ ‵ (fdies (tyInt w64) l15) ∷ ‵ (fat fullShare TP′.mir l14 0 (valP r)) ∷ ‵ (fdies TP′.mir l14) ∷ ‵ (froom tyBool l13 0) ∷ ‵ (fdies tyBool l13) ∷ ‵ (froom (tyOut erased) l12 0) ∷ ‵ (fdies (tyOut erased) l12) ∷ ‵ (froom tyOutRef l11 0) ∷ ‵ (fdies tyOutRef l11) ∷ ‵ (froom TR′.mir l10 0) ∷ ‵ (fdies TR′.mir l10) ∷ ‵ (froom tyPtr l9 0) ∷ ‵ (fdies tyPtr l9) ∷ ‵ (froom (tyInt w64) l8 0) ∷ ‵ (fdies (tyInt w64) l8) ∷ ‵ (froom TS′.mir l7 0) ∷ ‵ (fdies TS′.mir l7) ∷ ‵ (froom (tyInt w64) l6 0) ∷ ‵ (fdies (tyInt w64) l6) ∷ ‵ (fat fullShare (tyOut (named 2)) l5 0 (sliceVal (y .ptr) (length (y .now)))) ∷ ‵ (fdies (tyOut (named 2)) l5) ∷ ‵ (fat fullShare (tyTable (named 1)) l4 0 s₁) ∷ ‵ (fdies (tyTable (named 1)) l4) ∷ ‵ (fat fullShare TP′.mir l3 0 (valP p)) ∷ ‵ (fdies TP′.mir l3) ∷ ‵ (fat fullShare TJ′.mir l2 0 (valJ j)) ∷ ‵ (fdies TJ′.mir l2) ∷ ‵ (fat fullShare (tyWords (named 0)) l1 0 (sliceVal (w .ptr) (length (w .now)))) ∷ ‵ (fdies (tyWords (named 0)) l1) ∷ ‵ (froom TP′.mir l0 0) ∷ ‵ (fdies TP′.mir l0) ∷ []) (runs C Λ E body.t-10 (atRet E Post))
+    leaves : (r : Done) → Is D r (valsD r) → (zs : List Record) (os : List ℕ) → length zs ≡ length tb → length os ≡ length (y .now) → Said r zs os
+        → Sq W (‵ (fobs γ (codedHoleys R .code (heres R zs))) ∷ ‵ (fbor κ₁ (Held R (length zs) b o γ)) ∷ ‵ (flft κ₀ q₀) ∷ ‵ (flft κ₁ q₁) ∷ ‵ (flft κ₂ q₂) ∷ ‵ Own₀ ∷ ‵ (finally u32 (y .name) os) ∷ ‵ (froom tyPtr l16 0) ∷ ‵ (fdies tyPtr l16) ∷ ‵ (froom (tyInt w64) l15 0) ∷ ‵ (fdies (tyInt w64) l15) ∷ ‵ (fat fullShare TD′.mir l14 0 (valD r)) ∷ ‵ (fdies TD′.mir l14) ∷ ‵ (froom tyBool l13 0) ∷ ‵ (fdies tyBool l13) ∷ ‵ (froom (tyOut erased) l12 0) ∷ ‵ (fdies (tyOut erased) l12) ∷ ‵ (froom tyOutRef l11 0) ∷ ‵ (fdies tyOutRef l11) ∷ ‵ (froom TR′.mir l10 0) ∷ ‵ (fdies TR′.mir l10) ∷ ‵ (froom tyPtr l9 0) ∷ ‵ (fdies tyPtr l9) ∷ ‵ (froom (tyInt w64) l8 0) ∷ ‵ (fdies (tyInt w64) l8) ∷ ‵ (froom TS′.mir l7 0) ∷ ‵ (fdies TS′.mir l7) ∷ ‵ (froom (tyInt w64) l6 0) ∷ ‵ (fdies (tyInt w64) l6) ∷ ‵ (fat fullShare (tyOut (named 2)) l5 0 (sliceVal (y .ptr) (length (y .now)))) ∷ ‵ (fdies (tyOut (named 2)) l5) ∷ ‵ (fat fullShare (tyTable (named 1)) l4 0 s₁) ∷ ‵ (fdies (tyTable (named 1)) l4) ∷ ‵ (fat fullShare TD′.mir l3 0 (valD p)) ∷ ‵ (fdies TD′.mir l3) ∷ ‵ (fat fullShare TJ′.mir l2 0 (valJ j)) ∷ ‵ (fdies TJ′.mir l2) ∷ ‵ (fat fullShare (tyWords (named 0)) l1 0 (sliceVal (w .ptr) (length (w .now)))) ∷ ‵ (fdies (tyWords (named 0)) l1) ∷ ‵ (froom TD′.mir l0 0) ∷ ‵ (fdies TD′.mir l0) ∷ []) (runs C Λ E body.t-10 (atRet E Post))
     leaves r is-r zs os e-t e-o told =
-        assigns ! (of-opd ! (load ! (from ! (stop !)) (look ! 11 refl))) (from ! (stop !)) (init ! 39 refl (typedP 𝓤 H A W r is-r)) $ returns ! (look ! 39 refl) $ forget ! 39 refl $ forget ! 37 refl $ forget ! 35 refl $ forget ! 33 refl $ forget ! 31 refl $
+        assigns ! (of-opd ! (load ! (from ! (stop !)) (look ! 11 refl))) (from ! (stop !)) (init ! 39 refl (typedD 𝓤 H A W r is-r)) $ returns ! (look ! 39 refl) $ forget ! 39 refl $ forget ! 37 refl $ forget ! 35 refl $ forget ! 33 refl $ forget ! 31 refl $
         forget ! 29 refl $ forget ! 11 refl $ move ! (39 ∷ 40 ∷ []) $ free1 ! $ move ! (37 ∷ 38 ∷ []) $ free1 ! $ move ! (35 ∷ 36 ∷ []) $ free1 ! $ move ! (33 ∷ 34 ∷ []) $ free1 ! $ move ! (31 ∷ 32 ∷ []) $ free1 ! $ move ! (29 ∷ 30 ∷ []) $ free1 ! $
         move ! (27 ∷ 28 ∷ []) $ free1 ! $ move ! (25 ∷ 26 ∷ []) $ free1 ! $ move ! (23 ∷ 24 ∷ []) $ free1 ! $ move ! (21 ∷ 22 ∷ []) $ free1 ! $ move ! (19 ∷ 20 ∷ []) $ free1 ! $ move ! (17 ∷ 18 ∷ []) $ free1 ! $ move ! (15 ∷ 16 ∷ []) $ free1 ! $ move ! (13 ∷ 14 ∷ []) $
         free1 ! $ move ! (11 ∷ 12 ∷ []) $ free1 ! $ move ! (9 ∷ 10 ∷ []) $ free1 ! $ move ! (7 ∷ 8 ∷ []) $ free1 ! $ free0 ! $ keep ! (2 ∷ 3 ∷ 4 ∷ 5 ∷ 0 ∷ 1 ∷ 6 ∷ []) $ by ! (exits r is-r zs os e-t e-o told)
 
     -- the branch: the record is stored, or it stays; and the borrow is closed
-    branched : Is S new (valsS new) → length new-out ≡ length (y .now) → Sq W (‵ (cellAt fullShare (R .mir) (valsR old) b (place (mem R .size) o i)) ∷ ‵ (R .own old (valsR old)) ∷ ‵ (others (shares R) fullShare tb i b o) ∷ ‵ (fobor κ₁ q₁ (Held R (length tb) b o γ)) ∷ ‵ (fobs γ (codedHoleys R .code (heres R tb))) ∷ ‵ (fauth γ (codedHoleys R .code (heres R tb))) ∷ ‵ (flft κ₀ q₀) ∷ ‵ (flft κ₂ q₂) ∷ ‵ Own₀ ∷ ‵ (finally u32 (y .name) new-out) ∷ ‵ (froom tyPtr l16 0) ∷ ‵ (fdies tyPtr l16) ∷ ‵ (froom (tyInt w64) l15 0) ∷ ‵ (fdies (tyInt w64) l15) ∷ ‵ (froom TP′.mir l14 0) ∷ ‵ (fdies TP′.mir l14) ∷ ‵ (froom tyBool l13 0) ∷ ‵ (fdies tyBool l13) ∷ ‵ (froom (tyOut erased) l12 0) ∷ ‵ (fdies (tyOut erased) l12) ∷ ‵ (froom tyOutRef l11 0) ∷ ‵ (fdies tyOutRef l11) ∷ ‵ (froom TR′.mir l10 0) ∷ ‵ (fdies TR′.mir l10) ∷ ‵ (froom tyPtr l9 0) ∷ ‵ (fdies tyPtr l9) ∷ ‵ (froom (tyInt w64) l8 0) ∷ ‵ (fdies (tyInt w64) l8) ∷ ‵ (fat fullShare TS′.mir l7 0 (valS new)) ∷ ‵ (fdies TS′.mir l7) ∷ ‵ (fat fullShare (tyInt w64) l6 0 (vint w64 i)) ∷ ‵ (fdies (tyInt w64) l6) ∷ ‵ (fat fullShare (tyOut (named 2)) l5 0 (sliceVal (y .ptr) (length (y .now)))) ∷ ‵ (fdies (tyOut (named 2)) l5) ∷ ‵ (fat fullShare (tyTable (named 1)) l4 0 s₁) ∷ ‵ (fdies (tyTable (named 1)) l4) ∷ ‵ (fat fullShare TP′.mir l3 0 (valP p)) ∷ ‵ (fdies TP′.mir l3) ∷ ‵ (fat fullShare TJ′.mir l2 0 (valJ j)) ∷ ‵ (fdies TJ′.mir l2) ∷ ‵ (fat fullShare (tyWords (named 0)) l1 0 (sliceVal (w .ptr) (length (w .now)))) ∷ ‵ (fdies (tyWords (named 0)) l1) ∷ ‵ (froom TP′.mir l0 0) ∷ ‵ (fdies TP′.mir l0) ∷ []) (runs C Λ E body.t-8 (atRet E Post))
+    branched : Is S new (valsS new) → length new-out ≡ length (y .now) → Sq W (‵ (cellAt fullShare (R .mir) (valsR old) b (place (mem R .size) o i)) ∷ ‵ (R .own old (valsR old)) ∷ ‵ (others (shares R) fullShare tb i b o) ∷ ‵ (fobor κ₁ q₁ (Held R (length tb) b o γ)) ∷ ‵ (fobs γ (codedHoleys R .code (heres R tb))) ∷ ‵ (fauth γ (codedHoleys R .code (heres R tb))) ∷ ‵ (flft κ₀ q₀) ∷ ‵ (flft κ₂ q₂) ∷ ‵ Own₀ ∷ ‵ (finally u32 (y .name) new-out) ∷ ‵ (froom tyPtr l16 0) ∷ ‵ (fdies tyPtr l16) ∷ ‵ (froom (tyInt w64) l15 0) ∷ ‵ (fdies (tyInt w64) l15) ∷ ‵ (froom TD′.mir l14 0) ∷ ‵ (fdies TD′.mir l14) ∷ ‵ (froom tyBool l13 0) ∷ ‵ (fdies tyBool l13) ∷ ‵ (froom (tyOut erased) l12 0) ∷ ‵ (fdies (tyOut erased) l12) ∷ ‵ (froom tyOutRef l11 0) ∷ ‵ (fdies tyOutRef l11) ∷ ‵ (froom TR′.mir l10 0) ∷ ‵ (fdies TR′.mir l10) ∷ ‵ (froom tyPtr l9 0) ∷ ‵ (fdies tyPtr l9) ∷ ‵ (froom (tyInt w64) l8 0) ∷ ‵ (fdies (tyInt w64) l8) ∷ ‵ (fat fullShare TS′.mir l7 0 (valS new)) ∷ ‵ (fdies TS′.mir l7) ∷ ‵ (fat fullShare (tyInt w64) l6 0 (vint w64 i)) ∷ ‵ (fdies (tyInt w64) l6) ∷ ‵ (fat fullShare (tyOut (named 2)) l5 0 (sliceVal (y .ptr) (length (y .now)))) ∷ ‵ (fdies (tyOut (named 2)) l5) ∷ ‵ (fat fullShare (tyTable (named 1)) l4 0 s₁) ∷ ‵ (fdies (tyTable (named 1)) l4) ∷ ‵ (fat fullShare TD′.mir l3 0 (valD p)) ∷ ‵ (fdies TD′.mir l3) ∷ ‵ (fat fullShare TJ′.mir l2 0 (valJ j)) ∷ ‵ (fdies TJ′.mir l2) ∷ ‵ (fat fullShare (tyWords (named 0)) l1 0 (sliceVal (w .ptr) (length (w .now)))) ∷ ‵ (fdies (tyWords (named 0)) l1) ∷ ‵ (froom TD′.mir l0 0) ∷ ‵ (fdies TD′.mir l0) ∷ []) (runs C Λ E body.t-8 (atRet E Post))
     branched is-new long =
         assigns ! (of-opd ! (load ! (from ! (fld ! refl (stop !))) (look-in ! 28 (sub ! 1 refl (whole !))))) (from ! (stop !)) (init ! 16 refl (tt, tt)) $ first ! $ branches ! (load ! (from ! (stop !)) (look ! 16 refl)) (λ yes′.
         -- the new record is stored over the element, and the borrow is closed
@@ -129,24 +126,24 @@ module _ {M : Type 1} (𝓤 : URA M) (H : Heap 𝓤) (A : Atoms 𝓤) (W : Given
         assigns ! (bin ! (load ! (from ! (fld ! refl (stop !))) (look-in ! 34 (sub ! 0 refl (whole !)))) (load ! (from ! (stop !)) (look ! 12 refl)) tt) (from ! (stop !)) (init ! 10 refl (tt, tt)) $
         rewrite ! 10 (λ (k : ℕ). ‵ (fat fullShare tyPtr l16 0 (vptr b k))) (sym (place-is (mem R .size) o i)) refl $
         assigns ! (of-opd ! (load ! (from ! (fld ! refl (stop !))) (look-in ! 28 (sub ! 0 refl (whole !))))) (from ! (hop ! (look ! 10 refl) (stop !))) (store-raw ! 0 refl (typedR 𝓤 H A W (new .after) (after-is new is-new))) $
-        assigns-last ! (of-opd ! (load ! (from ! (fld ! refl (stop !))) (look-in ! 28 (sub ! 2 refl (whole !))))) (from ! (stop !)) (init ! 14 refl (typedP 𝓤 H A W (new .progress) (progress-is new is-new))) $ exec ! C Λ E body.t-10 (atRet E Post) $ move ! (1 ∷ []) $
+        assigns-last ! (of-opd ! (load ! (from ! (fld ! refl (stop !))) (look-in ! 28 (sub ! 2 refl (whole !))))) (from ! (stop !)) (init ! 14 refl (typedD 𝓤 H A W (new .done) (report-is new is-new))) $ exec ! C Λ E body.t-10 (atRet E Post) $ move ! (1 ∷ []) $
         drop ! $ owned ! R (Is R) (madeR 𝓤 H A W) (new .after) _ (after-is new is-new) $ move ! (1 ∷ 0 ∷ 2 ∷ 3 ∷ 4 ∷ 5 ∷ []) $
         elem-put ! R fullShare tb i (new .after) (valsR (new .after)) b o within $ closes-slice ! tt R tb (set tb i (new .after)) (length-set tb i (new .after)) b o $ forget ! 27 refl $ forget ! 25 refl $ forget ! 13 refl $ forget ! 9 refl $ forget ! 7 refl $
         keep ! (0 ∷ 1 ∷ 3 ∷ 2 ∷ 4 ∷ 5 ∷ 6 ∷ 7 ∷ 8 ∷ 9 ∷ 10 ∷ 11 ∷ 12 ∷ 13 ∷ 14 ∷ 15 ∷ 16 ∷ 17 ∷ 18 ∷ 19 ∷ 20 ∷ 21 ∷ 22 ∷ 23 ∷ 24 ∷ 25 ∷ 26 ∷ 27 ∷ 28 ∷ 29 ∷ 30 ∷ 31 ∷ 32 ∷ 33 ∷ 34 ∷ 35 ∷ 36 ∷ 37 ∷ 38 ∷ 39 ∷ 40 ∷ []) $
-        leaves (new .progress) (progress-is new is-new) (set tb i (new .after)) new-out (length-set tb i (new .after)) long said) (λ no′.
+        leaves (new .done) (report-is new is-new) (set tb i (new .after)) new-out (length-set tb i (new .after)) long said) (λ no′.
         -- the record stays, and the borrow is closed
-        assigns-last ! (of-opd ! (load ! (from ! (fld ! refl (stop !))) (look-in ! 28 (sub ! 2 refl (whole !))))) (from ! (stop !)) (init ! 14 refl (typedP 𝓤 H A W (new .progress) (progress-is new is-new))) $ exec ! C Λ E body.t-10 (atRet E Post) $
+        assigns-last ! (of-opd ! (load ! (from ! (fld ! refl (stop !))) (look-in ! 28 (sub ! 2 refl (whole !))))) (from ! (stop !)) (init ! 14 refl (typedD 𝓤 H A W (new .done) (report-is new is-new))) $ exec ! C Λ E body.t-10 (atRet E Post) $
         elem-put ! R fullShare tb i old (valsR old) b o within $ closes-slice ! tt R tb (set tb i old) (length-set tb i old) b o $ forget ! 27 refl $ forget ! 25 refl $ forget ! 13 refl $
         keep ! (0 ∷ 1 ∷ 3 ∷ 2 ∷ 4 ∷ 5 ∷ 6 ∷ 7 ∷ 8 ∷ 9 ∷ 10 ∷ 11 ∷ 12 ∷ 13 ∷ 14 ∷ 15 ∷ 16 ∷ 17 ∷ 18 ∷ 19 ∷ 20 ∷ 21 ∷ 22 ∷ 23 ∷ 24 ∷ 25 ∷ 26 ∷ 27 ∷ 28 ∷ 29 ∷ 30 ∷ 31 ∷ 32 ∷ 33 ∷ 34 ∷ 35 ∷ 36 ∷ 37 ∷ 38 ∷ 39 ∷ 40 ∷ []) $
-        leaves (new .progress) (progress-is new is-new) (set tb i old) new-out (length-set tb i old) long (same (not-held (new .changes) no′)))
+        leaves (new .done) (report-is new is-new) (set tb i old) new-out (length-set tb i old) long (same (not-held (new .changes) no′)))
 
   module _ (C : Calls 𝓤 H) (Λ : Loops 𝓤 H) (fm : FmC 𝓤 H (W .laws) C) (known-place : Triple 𝓤 (C #table·place-of) (PlaceOf 𝓤 H A W at-mem run)) (known-step : Triple 𝓤 (C #table·step) (Step 𝓤 H A W at-mem run)) where
-    walk : ent 𝓤 (onEntry 𝓤 H A one.signature (κ₀, (κ₁, (κ₂, tt))) (q₀, (q₁, (q₂, tt))) a at) (WpFn 𝓤 H C Λ code.function (sliceVal (w .ptr) (length (w .now)) ∷ valJ j ∷ valP p ∷ s₁ ∷ sliceVal (y .ptr) (length (y .now)) ∷ []) Post)
+    walk : ent 𝓤 (onEntry 𝓤 H A one.signature (κ₀, (κ₁, (κ₂, tt))) (q₀, (q₁, (q₂, tt))) a at) (WpFn 𝓤 H C Λ code.function (sliceVal (w .ptr) (length (w .now)) ∷ valJ j ∷ valD p ∷ s₁ ∷ sliceVal (y .ptr) (length (y .now)) ∷ []) Post)
     walk =
-        qed W ((‵ (flft κ₀ q₀) ⊛ ‵ (flft κ₁ q₁) ⊛ ‵ (flft κ₂ q₂) ⊛ ‵ ftrue) ∷ ‵ (owns (ShrSlice (named 0) κ₀ u32 ∷ J ∷ P ∷ MutSlice (named 1) κ₁ R ∷ MutSlice (named 2) κ₂ u32 ∷ []) a at) ∷ []) ∵
-        enter ! C Λ code.function (sliceVal (w .ptr) (length (w .now)) ∷ valJ j ∷ valP p ∷ s₁ ∷ sliceVal (y .ptr) (length (y .now)) ∷ []) _ $
+        qed W ((‵ (flft κ₀ q₀) ⊛ ‵ (flft κ₁ q₁) ⊛ ‵ (flft κ₂ q₂) ⊛ ‵ ftrue) ∷ ‵ (owns (ShrSlice (named 0) κ₀ u32 ∷ J ∷ D ∷ MutSlice (named 1) κ₁ R ∷ MutSlice (named 2) κ₂ u32 ∷ []) a at) ∷ []) ∵
+        enter ! C Λ code.function (sliceVal (w .ptr) (length (w .now)) ∷ valJ j ∷ valD p ∷ s₁ ∷ sliceVal (y .ptr) (length (y .now)) ∷ []) _ $
         alloc1 ! (λ l0. alloc1 ! (λ l1. alloc1 ! (λ l2. alloc1 ! (λ l3. alloc1 ! (λ l4. alloc1 ! (λ l5. alloc1 ! (λ l6. alloc1 ! (λ l7. alloc1 ! (λ l8. alloc1 ! (λ l9. alloc1 ! (λ l10. alloc1 ! (λ l11. alloc1 ! (λ l12. alloc1 ! (λ l13. alloc1 ! (λ l14. alloc1 ! (λ l15. alloc1 ! (λ l16. alloc0 ! $ params1 ! $
-        pass1 ! (init ! 30 refl (tt, (tt, (record { fits = room₀ .0 }, tt)))) $ pass1 ! (init ! 28 refl (typedJ 𝓤 H A W j is-j)) $ pass1 ! (init ! 26 refl (typedP 𝓤 H A W p is-p)) $ pass1 ! (init ! 24 refl (tt, (tt, (record { fits = room .0 }, tt)))) $ pass1 ! (init ! 22 refl (tt, (tt, (record { fits = room₂ .0 }, tt)))) $ pass0 ! $
+        pass1 ! (init ! 30 refl (tt, (tt, (record { fits = room₀ .0 }, tt)))) $ pass1 ! (init ! 28 refl (typedJ 𝓤 H A W j is-j)) $ pass1 ! (init ! 26 refl (typedD 𝓤 H A W p is-p)) $ pass1 ! (init ! 24 refl (tt, (tt, (record { fits = room .0 }, tt)))) $ pass1 ! (init ! 22 refl (tt, (tt, (record { fits = room₂ .0 }, tt)))) $ pass0 ! $
         move ! (35 ∷ []) $ fsplit ! $ move ! (1 ∷ []) $ fsplit ! $ move ! (1 ∷ []) $ fsplit ! $ move ! (1 ∷ []) $ fsplit ! $ move ! (1 ∷ []) $ fsplit ! $ move ! (2 ∷ []) $ fsplit ! $ move ! (1 ∷ []) $ fsplit ! $ move ! (42 ∷ []) $ split ! $ move ! (1 ∷ []) $ split ! $
         move ! (1 ∷ []) $ split ! $
         -- the call of `place_of`
@@ -177,7 +174,7 @@ module _ {M : Type 1} (𝓤 : URA M) (H : Heap 𝓤) (A : Atoms 𝓤) (W : Given
   one-walks : (C : Calls 𝓤 H) (Λ : Loops 𝓤 H) → FmC 𝓤 H (W .laws) C → Triple 𝓤 (C #table·place-of) (PlaceOf 𝓤 H A W at-mem run) → Triple 𝓤 (C #table·step) (Step 𝓤 H A W at-mem run)
       → Walks 𝓤 H A one.ended stayed (WpFn 𝓤 H C Λ code.function) (one.clauses 𝓤 H A at-mem run)
   one-walks C Λ fm k₁ k₂ = walked 𝓤 H A one.ended stayed (one.clauses 𝓤 H A at-mem run) (WpFn 𝓤 H C Λ code.function)
-      (λ κs. (slice-vals, (valsJ, (valsP, (slice-vals, (slice-vals, tt)))))) (λ κs. (shr-slice-tells (named 0) (κs .0) u32, (tellsJ, (tellsP, (mut-slice-tells (named 1) (κs .1 .0) R, (mut-slice-tells (named 2) (κs .1 .1 .0) u32, tt))))))
+      (λ κs. (slice-vals, (valsJ, (valsD, (slice-vals, (slice-vals, tt)))))) (λ κs. (shr-slice-tells (named 0) (κs .0) u32, (tellsJ, (tellsD, (mut-slice-tells (named 1) (κs .1 .0) R, (mut-slice-tells (named 2) (κs .1 .1 .0) u32, tt))))))
       (λ κs qs bounds a g are. needs 𝓤 (length (a .1 .1 .1 .0 .now) ≡ wholeTable) _ (λ so.
       walk 𝓤 H A W at-mem run (κs .0) (κs .1 .0) (κs .1 .1 .0) (qs .0) (qs .1 .0) (qs .1 .1 .0) (a .0) (a .1 .0) (a .1 .1 .0) (a .1 .1 .1 .0 .ptr .0) (a .1 .1 .1 .0 .ptr .1) (a .1 .1 .1 .0 .name) (a .1 .1 .1 .0 .now) (a .1 .1 .1 .1 .0)
       (are .0 .0 .1) (are .1 .0) (are .1 .1 .0) (are .1 .1 .1 .0 .0 .1) (are .1 .1 .1 .1 .0 .0 .1) so C Λ fm k₁ k₂))
@@ -186,7 +183,7 @@ one-meets : {M : Type 1} (𝓤 : URA M) (H : Heap 𝓤) (A : Atoms 𝓤) (W : Gi
     → Meets 𝓤 H A one.signature (WpFn 𝓤 H (𝓣 .C) (𝓣 .Λ) code.function) (one.spec 𝓤 H A mem run)
 one-meets 𝓤 H A W mem run 𝓣 k₁ k₂ =
     walk-meets 𝓤 H A one.ended stayed W
-    (goes-none-slice 𝓤 H A W 3 (0 ∷ []) tt (plain (λ _. u32)) yes, (goes-none 𝓤 H A W 3 (λ _. J) yes (λ κs x f. refl), (goes-none 𝓤 H A W 3 (λ _. P) yes (λ κs x f. refl), (goes-slice 𝓤 H A W 3 1 tt (plain (λ _. R)), (goes-gave-slice 𝓤 H A W 3 2 tt (plain (λ _. u32)), tt))))) (one.clauses 𝓤 H A mem run)
+    (goes-none-slice 𝓤 H A W 3 (0 ∷ []) tt (plain (λ _. u32)) yes, (goes-none 𝓤 H A W 3 (λ _. J) yes (λ κs x f. refl), (goes-none 𝓤 H A W 3 (λ _. D) yes (λ κs x f. refl), (goes-slice 𝓤 H A W 3 1 tt (plain (λ _. R)), (goes-gave-slice 𝓤 H A W 3 2 tt (plain (λ _. u32)), tt))))) (one.clauses 𝓤 H A mem run)
     (WpFn 𝓤 H (𝓣 .C) (𝓣 .Λ) code.function) (WpFn-mono 𝓤 H (W .laws) 𝓣 code.function) (one-walks 𝓤 H A W mem run (𝓣 .C) (𝓣 .Λ) (fmOf 𝓤 H (W .laws) 𝓣) k₁ k₂)
 
 pub one-spec : {M : Type 1} → stated.statement M

@@ -15,7 +15,7 @@ use Rattle.stream.specs.Report.{reported}
 use Rattle.stream.specs.Run.{Ran}
 use Rattle.table.specs.declared.TableAndReport.{TableAndReport}
 use Rattle.table.specs.Table.{runUp, tableAfter}
-use Rattle.table.specs.Progress.{asked, tableStep, wholeRun}
+use Rattle.table.specs.Job.{asked, tableStep, wholeRun}
 use Rattle.table.proofs.Job.Laws as TJ′
 use Rattle.table.proofs.Values.{R, valsR, tellsR, J, valJ, valsJ, tellsJ, typedJ, D, valD, valsD, typedD, U, valArray, valOf, typedArray, table-is, typedU, madeU, tyTable}
 use Rattle.ground.proofs.More.{says3, use6}

@@ -10,18 +10,23 @@ use Rattle.ground.specs.Store.{atStart}
 use Rattle.stream.specs.Report.{reported}
 use Rattle.stream.specs.Run.{Ran}
 use Rattle.table.specs.Table.{tableAfter}
-use Rattle.table.specs.Progress.{asked, begun}
+use Rattle.stream.specs.declared.Done.{Done}
+use Rattle.table.specs.Job.{asked, tableStep}
+use Rattle.table.specs.Next.{reportAfterCall}
 use Rattle.table.proofs.Job.Laws as TJ′
 use Rattle.table.proofs.Progress.Laws as TP′
-use Rattle.table.proofs.Values.{R, J, valJ, valsJ, tellsJ, typedJ, madeJ, P, valP, valsP, typedP, D, valD, typedD, madeD, done-is, tyWords, tyOut, tyOutRef, tyTable, tyTableRef}
+use Rattle.table.proofs.Values.{R, J, valJ, valsJ, tellsJ, typedJ, madeJ, P, valP, valsP, typedP, D, valD, valsD, typedD, madeD, done-is, tyWords, tyOut, tyOutRef, tyTable, tyTableRef}
 use Rattle.ground.proofs.More.{says3, use6}
 use Rattle.ground.proofs.Cases.{by-bool}
-use Rattle.table.proofs.Calls.{Start, to-start, start-pre, start-post, One, to-one, one-pre, one-post}
+use Rattle.table.proofs.Calls.{Start, to-start, start-pre, start-post, Onward, to-onward, onward-pre, onward-post, One, to-one, one-pre, one-post}
 use Rattle.ground.proofs.Again.{LentAgain, lends-again, comes-back}
-use Rattle.table.proofs.Turns.{State, Turn, begun-at, nextOf, Fewer, Fewer-wf, going, next-turn, fewer, ended, first-turn}
+use Rattle.table.proofs.Turns.{State, Turn, begun, begun-at, nextOf, Fewer, Fewer-wf, going, next-turn, fewer, ended, first-turn}
 use Rattle.table.proofs.one.Symbol as one-def
 use Rattle.table.proofs.one.Symbol.{name as #table·one}
 use Rattle.table.proofs.one.Met as one-thm
+use Rattle.table.proofs.onward.Symbol as onward-def
+use Rattle.table.proofs.onward.Symbol.{name as #table·onward}
+use Rattle.table.proofs.onward.Met as onward-thm
 use Rattle.table.proofs.start.Symbol as start-def
 use Rattle.table.proofs.start.Symbol.{name as #table·start}
 use Rattle.table.proofs.start.Met as start-thm
@@ -62,7 +67,7 @@ module _ {M : Type 1} (𝓤 : URA M) (H : Heap 𝓤) (A : Atoms 𝓤) (W : Given
   Own₂ os = MutSlice (named 2) κ₂ u32 .own (record { ptr = (c, u); name = η; now = os }) (sliceVal (c, u) (length os) ∷ [])
 
   abbrev p₀ : Progress
-  p₀ = begun j (length tb) (length (w .now))
+  p₀ = begun (j .once) (length tb) (length (w .now))
 
   -- the two as they are lent on
   abbrev x₁ : GName → State → RefT (List Record)
@@ -72,7 +77,7 @@ module _ {M : Type 1} (𝓤 : URA M) (H : Heap 𝓤) (A : Atoms 𝓤) (W : Given
   y₂ ε s = record { ptr = (c, u); name = ε; now = s .out }
 
   abbrev to : ℕ → ℕ → GName → GName → State → One 𝓤 H A W at-mem run .Ghost
-  to α β δ ε s = to-one 𝓤 H A W at-mem run κ₀ (α ∷ []) (β ∷ []) q₀ fullShare fullShare w j (x₁ δ s) (y₂ ε s) (s .p)
+  to α β δ ε s = to-one 𝓤 H A W at-mem run κ₀ (α ∷ []) (β ∷ []) q₀ fullShare fullShare w j (x₁ δ s) (y₂ ε s) (s .p .done)
 
   abbrev asked-for : Ran (ℕ × List Record)
   asked-for = asked j (length out) tb (w .now)
@@ -93,7 +98,7 @@ module _ {M : Type 1} (𝓤 : URA M) (H : Heap 𝓤) (A : Atoms 𝓤) (W : Given
       rewrite ! 2 (λ (m : ℕ). ‵ (MutSlice (named 2) κ₂ u32 .own (record { ptr = (c, u); name = η; now = s .out }) (sliceVal (c, u) m ∷ []))) l₂ refl $
       nothing ! $ move ! (3 ∷ 0 ∷ []) $ fjoin ! $ move ! (2 ∷ 0 ∷ []) $ fjoin ! $ owned ! J (Is J) (madeJ 𝓤 H A W) j _ is-j $ fjoin ! $ move ! (1 ∷ 0 ∷ []) $ fjoin ! $ frame ! $ owned ! D (Is D) (madeD 𝓤 H A W) (s .p .done) _ (done-is (s .p) is-p) $ done !
 
-  module _ (𝓣 : Tables 𝓤 H) (known-one : Triple 𝓤 (𝓣 .C #table·one) (One 𝓤 H A W at-mem run)) (l0 l1 l2 l3 l4 l5 l6 l7 l8 l9 l10 l11 l12 : ℕ) where
+  module _ (𝓣 : Tables 𝓤 H) (known-one : Triple 𝓤 (𝓣 .C #table·one) (One 𝓤 H A W at-mem run)) (known-onward : Triple 𝓤 (𝓣 .C #table·onward) (Onward 𝓤 H A W at-mem run)) (l0 l1 l2 l3 l4 l5 l6 l7 l8 l9 l10 l11 l12 l13 l14 : ℕ) where
     abbrev C : Calls 𝓤 H
     C = 𝓣 .C
 
@@ -104,11 +109,11 @@ module _ {M : Type 1} (𝓤 : URA M) (H : Heap 𝓤) (A : Atoms 𝓤) (W : Given
     fm = fmOf 𝓤 H (W .laws) 𝓣
 
     abbrev E : Env 𝓤 H
-    E = (TD′.mir, l0) ∷ ((tyWords (named 0)), l1) ∷ (TJ′.mir, l2) ∷ ((tyTable (named 1)), l3) ∷ ((tyOut (named 2)), l4) ∷ (TP′.mir, l5) ∷ ((tyInt w64), l6) ∷ ((tyInt w64), l7) ∷ (tyBool, l8) ∷ (tyTableRef, l9) ∷ ((tyTable erased), l10) ∷ (tyOutRef, l11) ∷ ((tyOut erased), l12) ∷ []
+    E = (TD′.mir, l0) ∷ ((tyWords (named 0)), l1) ∷ (TJ′.mir, l2) ∷ ((tyTable (named 1)), l3) ∷ ((tyOut (named 2)), l4) ∷ (TP′.mir, l5) ∷ (TD′.mir, l6) ∷ ((tyInt w64), l7) ∷ ((tyInt w64), l8) ∷ (tyBool, l9) ∷ (tyTableRef, l10) ∷ ((tyTable erased), l11) ∷ (tyOutRef, l12) ∷ ((tyOut erased), l13) ∷ ((tyInt w64), l14) ∷ []
 
     -- what a turn begins with, at a state
     abbrev At : State → List (Item 𝓤)
-    At s = ‵ (Own₁ (s .tb)) ∷ ‵ (flft κ₁ q₁) ∷ ‵ (Own₂ (s .out)) ∷ ‵ (flft κ₂ q₂) ∷ ‵ Own₀ ∷ ‵ (flft κ₀ q₀) ∷ ‵ (froom (tyOut erased) l12 0) ∷ ‵ (fdies (tyOut erased) l12) ∷ ‵ (froom tyOutRef l11 0) ∷ ‵ (fdies tyOutRef l11) ∷ ‵ (froom (tyTable erased) l10 0) ∷ ‵ (fdies (tyTable erased) l10) ∷ ‵ (froom tyTableRef l9 0) ∷ ‵ (fdies tyTableRef l9) ∷ ‵ (froom tyBool l8 0) ∷ ‵ (fdies tyBool l8) ∷ ‵ (froom (tyInt w64) l7 0) ∷ ‵ (fdies (tyInt w64) l7) ∷ ‵ (froom (tyInt w64) l6 0) ∷ ‵ (fdies (tyInt w64) l6) ∷ ‵ (fat fullShare TP′.mir l5 0 (valP (s .p))) ∷ ‵ (fdies TP′.mir l5) ∷ ‵ (fat fullShare (tyOut (named 2)) l4 0 (sliceVal (c, u) (length (s .out)))) ∷ ‵ (fdies (tyOut (named 2)) l4) ∷ ‵ (fat fullShare (tyTable (named 1)) l3 0 (sliceVal (b, o) (length (s .tb)))) ∷ ‵ (fdies (tyTable (named 1)) l3) ∷ ‵ (fat fullShare TJ′.mir l2 0 (valJ j)) ∷ ‵ (fdies TJ′.mir l2) ∷ ‵ (fat fullShare (tyWords (named 0)) l1 0 (sliceVal (w .ptr) (length (w .now)))) ∷ ‵ (fdies (tyWords (named 0)) l1) ∷ ‵ (froom TD′.mir l0 0) ∷ ‵ (fdies TD′.mir l0) ∷ []
+    At s = ‵ (Own₁ (s .tb)) ∷ ‵ (flft κ₁ q₁) ∷ ‵ (Own₂ (s .out)) ∷ ‵ (flft κ₂ q₂) ∷ ‵ Own₀ ∷ ‵ (flft κ₀ q₀) ∷ ‵ (froom (tyInt w64) l14 0) ∷ ‵ (fdies (tyInt w64) l14) ∷ ‵ (froom (tyOut erased) l13 0) ∷ ‵ (fdies (tyOut erased) l13) ∷ ‵ (froom tyOutRef l12 0) ∷ ‵ (fdies tyOutRef l12) ∷ ‵ (froom (tyTable erased) l11 0) ∷ ‵ (fdies (tyTable erased) l11) ∷ ‵ (froom tyTableRef l10 0) ∷ ‵ (fdies tyTableRef l10) ∷ ‵ (froom tyBool l9 0) ∷ ‵ (fdies tyBool l9) ∷ ‵ (froom (tyInt w64) l8 0) ∷ ‵ (fdies (tyInt w64) l8) ∷ ‵ (froom (tyInt w64) l7 0) ∷ ‵ (fdies (tyInt w64) l7) ∷ ‵ (froom TD′.mir l6 0) ∷ ‵ (fdies TD′.mir l6) ∷ ‵ (fat fullShare TP′.mir l5 0 (valP (s .p))) ∷ ‵ (fdies TP′.mir l5) ∷ ‵ (fat fullShare (tyOut (named 2)) l4 0 (sliceVal (c, u) (length (s .out)))) ∷ ‵ (fdies (tyOut (named 2)) l4) ∷ ‵ (fat fullShare (tyTable (named 1)) l3 0 (sliceVal (b, o) (length (s .tb)))) ∷ ‵ (fdies (tyTable (named 1)) l3) ∷ ‵ (fat fullShare TJ′.mir l2 0 (valJ j)) ∷ ‵ (fdies TJ′.mir l2) ∷ ‵ (fat fullShare (tyWords (named 0)) l1 0 (sliceVal (w .ptr) (length (w .now)))) ∷ ‵ (fdies (tyWords (named 0)) l1) ∷ ‵ (froom TD′.mir l0 0) ∷ ‵ (fdies TD′.mir l0) ∷ []
 
     abbrev I : Turn (w .now) j tb out → List (Item 𝓤)
     I t = At (t .st)
@@ -119,21 +124,19 @@ module _ {M : Type 1} (𝓤 : URA M) (H : Heap 𝓤) (A : Atoms 𝓤) (W : Given
 
     leaves : (s : State) → Is P (s .p) (valsP (s .p)) → length (s .tb) ≡ length tb → length (s .out) ≡ length out → Said s → Sq W (At s) (runs C Λ E body.t-5 (atRet E Post))
     leaves s is-p l₁ l₂ so =
-        assigns ! (of-opd ! (load ! (from ! (fld ! refl (stop !))) (look-in ! 20 (sub ! 0 refl (whole !))))) (from ! (stop !)) (init ! 30 refl (typedD 𝓤 H A W (s .p .done) (done-is (s .p) is-p))) $ returns ! (look ! 30 refl) $ forget ! 30 refl $ forget ! 28 refl $
-        forget ! 26 refl $ forget ! 24 refl $ forget ! 22 refl $ forget ! 20 refl $ move ! (30 ∷ 31 ∷ []) $ free1 ! $ move ! (28 ∷ 29 ∷ []) $ free1 ! $ move ! (26 ∷ 27 ∷ []) $ free1 ! $ move ! (24 ∷ 25 ∷ []) $ free1 ! $ move ! (22 ∷ 23 ∷ []) $ free1 ! $
-        move ! (20 ∷ 21 ∷ []) $ free1 ! $ move ! (18 ∷ 19 ∷ []) $ free1 ! $ move ! (16 ∷ 17 ∷ []) $ free1 ! $ move ! (14 ∷ 15 ∷ []) $ free1 ! $ move ! (12 ∷ 13 ∷ []) $ free1 ! $ move ! (10 ∷ 11 ∷ []) $ free1 ! $ move ! (8 ∷ 9 ∷ []) $ free1 ! $ move ! (6 ∷ 7 ∷ []) $
-        free1 ! $ free0 ! $ keep ! (5 ∷ 1 ∷ 3 ∷ 4 ∷ 0 ∷ 2 ∷ []) $ by ! (exits s is-p l₁ l₂ so)
+        assigns ! (of-opd ! (load ! (from ! (fld ! refl (stop !))) (look-in ! 24 (sub ! 0 refl (whole !))))) (from ! (stop !)) (init ! 34 refl (typedD 𝓤 H A W (s .p .done) (done-is (s .p) is-p))) $ returns ! (look ! 34 refl) $ forget ! 34 refl $ forget ! 32 refl $
+        forget ! 30 refl $ forget ! 28 refl $ forget ! 26 refl $ forget ! 24 refl $ move ! (34 ∷ 35 ∷ []) $ free1 ! $ move ! (32 ∷ 33 ∷ []) $ free1 ! $ move ! (30 ∷ 31 ∷ []) $ free1 ! $ move ! (28 ∷ 29 ∷ []) $ free1 ! $ move ! (26 ∷ 27 ∷ []) $ free1 ! $ move ! (24 ∷ 25 ∷ []) $ free1 ! $ move ! (22 ∷ 23 ∷ []) $ free1 ! $ move ! (20 ∷ 21 ∷ []) $ free1 ! $ move ! (18 ∷ 19 ∷ []) $ free1 ! $ move ! (16 ∷ 17 ∷ []) $ free1 ! $ move ! (14 ∷ 15 ∷ []) $ free1 ! $ move ! (12 ∷ 13 ∷ []) $ free1 ! $ move ! (10 ∷ 11 ∷ []) $ free1 ! $ move ! (8 ∷ 9 ∷ []) $ free1 ! $ move ! (6 ∷ 7 ∷ []) $ free1 ! $ free0 ! $ keep ! (5 ∷ 1 ∷ 3 ∷ 4 ∷ 0 ∷ 2 ∷ []) $ by ! (exits s is-p l₁ l₂ so)
 
     more : (t : Turn (w .now) j tb out) → t .st .p .more ≡ true → Sq W (I t) (runs C Λ E body.turn-1 (anyQ (Turned t)))
     unfolding afterTurn
     more t e =
-        let s : State = t .st in let s′ : State = nextOf j (w .now) s in let is-p : Is P (s .p) (valsP (s .p)) = t .good in
+        let s : State = t .st in let s′ : State = nextOf j (w .now) s in let d′ : Done = reportAfterCall (tableStep j) (w .now) (s .p .done) (s .tb) (s .out) in let is-p : Is P (s .p) (valsP (s .p)) = t .good in
         let r₁ : Room R (length (s .tb)) = subst (Room R) (sym (t .tb-long)) room₁ in let r₂ : Room u32 (length (s .out)) = subst (Room u32) (sym (t .out-long)) room₂ in
-        assigns ! (of-opd ! (load ! (from ! (fld ! refl (stop !))) (look-in ! 20 (sub ! 1 refl (whole !))))) (from ! (stop !)) (init ! 14 refl (tt, tt)) $ rewrite ! 14 (λ (z : Bool). ‵ (fat fullShare tyBool l8 0 (vbool z))) e refl $
-        stays ! (load ! (from ! (stop !)) (look ! 14 refl)) $ assigns ! (addr ! (from ! (fld ! refl (hop ! (look-in ! 24 (sub ! 0 refl (whole !))) (stop !))))) (from ! (stop !)) (init ! 12 refl (tt, tt)) $
-        assigns ! (agg ! (and-then ! (load ! (from ! (stop !)) (look ! 12 refl)) (and-then ! (load ! (from ! (fld ! refl (stop !))) (look-in ! 24 (sub ! 1 refl (whole !)))) (no-more !)))) (from ! (stop !)) (init ! 10 refl (tt, (tt, (record { fits = r₁ .0 }, tt)))) $
-        assigns ! (addr ! (from ! (fld ! refl (hop ! (look-in ! 22 (sub ! 0 refl (whole !))) (stop !))))) (from ! (stop !)) (init ! 8 refl (tt, tt)) $
-        assigns ! (agg ! (and-then ! (load ! (from ! (stop !)) (look ! 8 refl)) (and-then ! (load ! (from ! (fld ! refl (stop !))) (look-in ! 22 (sub ! 1 refl (whole !)))) (no-more !)))) (from ! (stop !)) (init ! 6 refl (tt, (tt, (record { fits = r₂ .0 }, tt)))) $
+        assigns ! (of-opd ! (load ! (from ! (fld ! refl (stop !))) (look-in ! 24 (sub ! 1 refl (whole !))))) (from ! (stop !)) (init ! 16 refl (tt, tt)) $ rewrite ! 16 (λ (z : Bool). ‵ (fat fullShare tyBool l9 0 (vbool z))) e refl $
+        stays ! (load ! (from ! (stop !)) (look ! 16 refl)) $ assigns ! (addr ! (from ! (fld ! refl (hop ! (look-in ! 28 (sub ! 0 refl (whole !))) (stop !))))) (from ! (stop !)) (init ! 14 refl (tt, tt)) $
+        assigns ! (agg ! (and-then ! (load ! (from ! (stop !)) (look ! 14 refl)) (and-then ! (load ! (from ! (fld ! refl (stop !))) (look-in ! 28 (sub ! 1 refl (whole !)))) (no-more !)))) (from ! (stop !)) (init ! 12 refl (tt, (tt, (record { fits = r₁ .0 }, tt)))) $
+        assigns ! (addr ! (from ! (fld ! refl (hop ! (look-in ! 26 (sub ! 0 refl (whole !))) (stop !))))) (from ! (stop !)) (init ! 10 refl (tt, tt)) $
+        assigns ! (agg ! (and-then ! (load ! (from ! (stop !)) (look ! 10 refl)) (and-then ! (load ! (from ! (fld ! refl (stop !))) (look-in ! 26 (sub ! 1 refl (whole !)))) (no-more !)))) (from ! (stop !)) (init ! 8 refl (tt, (tt, (record { fits = r₂ .0 }, tt)))) $
         -- both borrows are lent again, each for a lifetime of its own
         lft-new ! tt (λ α. lft-new ! tt (λ β. move ! (2 ∷ 3 ∷ []) $
         use2 W (later (some (λ (δ : GName). ‵ (MutSlice (named 1) (α ∷ []) R .own (x₁ δ s) (sliceVal (b, o) (length (s .tb)) ∷ [])) ⊛ ‵ (LentAgain R κ₁ (α ∷ []) q₁ γ b o δ (s .tb))))) (lends-again R κ₁ (α ∷ []) q₁ γ b o 𝓤 H A W (named 1) (named 1) (s .tb)) $ await ! tt $ pick ! (λ δ. split ! $
@@ -141,10 +144,10 @@ module _ {M : Type 1} (𝓤 : URA M) (H : Heap 𝓤) (A : Atoms 𝓤) (W : Given
         use2 W (later (some (λ (ε : GName). ‵ (MutSlice (named 2) (β ∷ []) u32 .own (y₂ ε s) (sliceVal (c, u) (length (s .out)) ∷ [])) ⊛ ‵ (LentAgain u32 κ₂ (β ∷ []) q₂ η c u ε (s .out))))) (lends-again u32 κ₂ (β ∷ []) q₂ η c u 𝓤 H A W (named 2) (named 2) (s .out)) $ await ! tt $ pick ! (λ ε. split ! $
         -- the call of `one`
         move ! (6 ∷ []) $ use1 W (‵ Own₀ ⊛ ‵ Own₀) (shr-slice-copy 𝓤 H A W (named 0) κ₀ u32 .twice w (slice-vals w)) $ split ! $ move ! (8 ∷ 7 ∷ 6 ∷ 1 ∷ 4 ∷ 2 ∷ []) $
-        -- [t0; ta; tb; words2; tab; out; words; lent2; lent1; L12; D12; L11; D11; L10; D10; L9; D9; L8; D8; L7; D7; L6; D6; L5; D5; L4; D4; L3; D3; L2; D2; L1; D1; L0; D0]
-        use6 𝓤 H A W (raw (One 𝓤 H A W at-mem run .pre (to α β δ ε s))) (one-pre 𝓤 H A W at-mem run κ₀ (α ∷ []) (β ∷ []) q₀ fullShare fullShare w j (x₁ δ s) (y₂ ε s) (s .p) is-j is-p (going (w .now) j tb out t e .0)) $
-        calls-at-last ! fm (One 𝓤 H A W at-mem run) known-one (to α β δ ε s) (and-then ! (load ! (from ! (stop !)) (look ! 26 refl)) (and-then ! (load ! (from ! (stop !)) (look ! 24 refl)) (and-then ! (load ! (from ! (stop !)) (look ! 18 refl)) (and-then ! (load ! (from ! (stop !)) (look ! 8 refl)) (and-then ! (load ! (from ! (stop !)) (look ! 4 refl)) (no-more !)))))) (λ v.
-        use1 W (later (given (((v ≡ valP (s′ .p)) × Is P (s′ .p) (valsP (s′ .p))) × ((length (s′ .tb) ≡ length (s .tb)) × (length (s′ .out) ≡ length (s .out)))) ((‵ (flft κ₀ q₀) ⊛ ‵ (flft (α ∷ []) fullShare) ⊛ ‵ (flft (β ∷ []) fullShare) ⊛ ‵ ftrue) ⊛ ‵ (fsep (finally R δ (s′ .tb)) (finally u32 ε (s′ .out)))))) (one-post 𝓤 H A W at-mem run κ₀ (α ∷ []) (β ∷ []) q₀ fullShare fullShare w j (x₁ δ s) (y₂ ε s) (s .p) v) $ await ! tt $ learn ! (λ f.
+        -- [t0; ta; tb; words2; tab; out; words; lent2; lent1; L14; D14; .. ; L0; D0]
+        use6 𝓤 H A W (raw (One 𝓤 H A W at-mem run .pre (to α β δ ε s))) (one-pre 𝓤 H A W at-mem run κ₀ (α ∷ []) (β ∷ []) q₀ fullShare fullShare w j (x₁ δ s) (y₂ ε s) (s .p .done) is-j (done-is (s .p) is-p) (going (w .now) j tb out t e .0)) $
+        calls-at ! fm (One 𝓤 H A W at-mem run) known-one (to α β δ ε s) (and-then ! (load ! (from ! (stop !)) (look ! 30 refl)) (and-then ! (load ! (from ! (stop !)) (look ! 28 refl)) (and-then ! (load ! (from ! (fld ! refl (stop !))) (look-in ! 22 (sub ! 0 refl (whole !)))) (and-then ! (load ! (from ! (stop !)) (look ! 10 refl)) (and-then ! (load ! (from ! (stop !)) (look ! 6 refl)) (no-more !)))))) (λ v.
+        use1 W (later (given (((v ≡ valD d′) × Is D d′ (valsD d′)) × ((length (s′ .tb) ≡ length (s .tb)) × (length (s′ .out) ≡ length (s .out)))) ((‵ (flft κ₀ q₀) ⊛ ‵ (flft (α ∷ []) fullShare) ⊛ ‵ (flft (β ∷ []) fullShare) ⊛ ‵ ftrue) ⊛ ‵ (fsep (finally R δ (s′ .tb)) (finally u32 ε (s′ .out)))))) (one-post 𝓤 H A W at-mem run κ₀ (α ∷ []) (β ∷ []) q₀ fullShare fullShare w j (x₁ δ s) (y₂ ε s) (s .p .done) v) $ await ! tt $ learn ! (λ f.
         split ! $ split ! $ move ! (1 ∷ []) $ split ! $ move ! (1 ∷ []) $ split ! $ move ! (4 ∷ []) $ fsplit ! $
         -- the lifetimes end, and both come back
         move ! (4 ∷ []) $ lft-end ! tt $ move ! (0 ∷ 8 ∷ 1 ∷ []) $
@@ -152,16 +155,23 @@ module _ {M : Type 1} (𝓤 : URA M) (H : Heap 𝓤) (A : Atoms 𝓤) (W : Given
         lft-end ! tt $ move ! (0 ∷ 7 ∷ 3 ∷ []) $
         use3 W (later (‵ (MutSlice (named 2) κ₂ u32 .own (y₂ η s′) (sliceVal (c, u) (length (s .out)) ∷ [])) ⊛ ‵ (flft κ₂ q₂))) (comes-back u32 κ₂ (β ∷ []) q₂ η c u 𝓤 H A W (named 2) (named 2) (s .out) ε (s′ .out) r₂ (f .1 .1)) $ await ! tt $ split ! $
         rewrite ! 2 (λ (m : ℕ). ‵ (MutSlice (named 1) κ₁ R .own (x₁ γ s′) (sliceVal (b, o) m ∷ []))) (sym (f .1 .0)) refl $ rewrite ! 0 (λ (m : ℕ). ‵ (MutSlice (named 2) κ₂ u32 .own (y₂ η s′) (sliceVal (c, u) m ∷ []))) (sym (f .1 .1)) refl $
-        rewrite ! 25 (λ (m : ℕ). ‵ (fat fullShare (tyTable (named 1)) l3 0 (sliceVal (b, o) m))) (sym (f .1 .0)) refl $ rewrite ! 23 (λ (m : ℕ). ‵ (fat fullShare (tyOut (named 2)) l4 0 (sliceVal (c, u) m))) (sym (f .1 .1)) refl $
-        land-last ! (from ! (stop !)) (store ! 21 refl (subst (λ (z : Val). Holds (hasTy TP′.mir z) × WT z) (sym (f .0 .0)) (typedP 𝓤 H A W (s′ .p) (f .0 .1)))) $ rewrite ! 21 (λ (z : Val). ‵ (fat fullShare TP′.mir l5 0 z)) (f .0 .0) refl $ forget ! 15 refl $
-        forget ! 13 refl $ forget ! 11 refl $ forget ! 9 refl $ forget ! 7 refl $ keep ! (2 ∷ 3 ∷ 0 ∷ 1 ∷ 6 ∷ 5 ∷ 7 ∷ 8 ∷ 9 ∷ 10 ∷ 11 ∷ 12 ∷ 13 ∷ 14 ∷ 15 ∷ 16 ∷ 17 ∷ 18 ∷ 19 ∷ 20 ∷ 21 ∷ 22 ∷ 23 ∷ 24 ∷ 25 ∷ 26 ∷ 27 ∷ 28 ∷ 29 ∷ 30 ∷ 31 ∷ 32 ∷ []) $
-        again ! (Fewer (w .now) j tb out) I t (next-turn (w .now) j tb out t e (f .0 .1) (f .1 .0) (f .1 .1)) (fewer (w .now) j tb out t e (f .0 .1) (f .1 .0) (f .1 .1))))))))
+        rewrite ! 29 (λ (m : ℕ). ‵ (fat fullShare (tyTable (named 1)) l3 0 (sliceVal (b, o) m))) (sym (f .1 .0)) refl $ rewrite ! 27 (λ (m : ℕ). ‵ (fat fullShare (tyOut (named 2)) l4 0 (sliceVal (c, u) m))) (sym (f .1 .1)) refl $
+        land ! (from ! (stop !)) (init ! 23 refl (subst (λ (z : Val). Holds (hasTy TD′.mir z) × WT z) (sym (f .0 .0)) (typedD 𝓤 H A W d′ (f .0 .1)))) $ rewrite ! 23 (λ (z : Val). ‵ (fat fullShare TD′.mir l6 0 z)) (f .0 .0) refl $
+        -- the call of `onward`
+        assigns ! (of-opd ! (load ! (from ! (fld ! refl (stop !))) (look-in ! 33 (sub ! 1 refl (whole !))))) (from ! (stop !)) (init ! 7 refl (tt, record { fits = room₀ .0 })) $
+        use0 W (raw (Onward 𝓤 H A W at-mem run .pre (to-onward 𝓤 H A W at-mem run (length (w .now)) j (s .p .done) d′))) (onward-pre 𝓤 H A W at-mem run (length (w .now)) j (s .p .done) d′ (room₀ .0) is-j (done-is (s .p) is-p) (f .0 .1)) $
+        calls-at-last ! fm (Onward 𝓤 H A W at-mem run) known-onward (to-onward 𝓤 H A W at-mem run (length (w .now)) j (s .p .done) d′) (and-then ! (load ! (from ! (stop !)) (look ! 8 refl)) (and-then ! (load ! (from ! (stop !)) (look ! 32 refl)) (and-then ! (load ! (from ! (fld ! refl (stop !))) (look-in ! 26 (sub ! 0 refl (whole !)))) (and-then ! (load ! (from ! (stop !)) (look ! 24 refl)) (no-more !))))) (λ v′.
+        use1 W (later (given ((v′ ≡ valP (s′ .p)) × Is P (s′ .p) (valsP (s′ .p))) (‵ ftrue))) (onward-post 𝓤 H A W at-mem run (length (w .now)) j (s .p .done) d′ v′) $ await ! tt $ learn ! (λ g. drop ! $
+        land-last ! (from ! (stop !)) (store ! 25 refl (subst (λ (z : Val). Holds (hasTy TP′.mir z) × WT z) (sym (g .0)) (typedP 𝓤 H A W (s′ .p) (g .1)))) $ rewrite ! 25 (λ (z : Val). ‵ (fat fullShare TP′.mir l5 0 z)) (g .0) refl $
+        forget ! 23 refl $ forget ! 17 refl $ forget ! 15 refl $ forget ! 13 refl $ forget ! 11 refl $ forget ! 9 refl $ forget ! 7 refl $
+        keep ! (2 ∷ 3 ∷ 0 ∷ 1 ∷ 6 ∷ 5 ∷ 7 ∷ 8 ∷ 9 ∷ 10 ∷ 11 ∷ 12 ∷ 13 ∷ 14 ∷ 15 ∷ 16 ∷ 17 ∷ 18 ∷ 19 ∷ 20 ∷ 21 ∷ 22 ∷ 23 ∷ 24 ∷ 25 ∷ 26 ∷ 27 ∷ 28 ∷ 29 ∷ 30 ∷ 31 ∷ 32 ∷ 33 ∷ 34 ∷ 35 ∷ 36 ∷ []) $
+        again ! (Fewer (w .now) j tb out) I t (next-turn (w .now) j tb out t e (g .1) (f .1 .0) (f .1 .1)) (fewer (w .now) j tb out t e (g .1) (f .1 .0) (f .1 .1))))))))))
 
     last : (t : Turn (w .now) j tb out) → t .st .p .more ≡ false → Sq W (I t) (runs C Λ E body.turn-1 (anyQ (Turned t)))
     unfolding afterTurn
     last t e =
-        assigns ! (of-opd ! (load ! (from ! (fld ! refl (stop !))) (look-in ! 20 (sub ! 1 refl (whole !))))) (from ! (stop !)) (init ! 14 refl (tt, tt)) $ rewrite ! 14 (λ (z : Bool). ‵ (fat fullShare tyBool l8 0 (vbool z))) e refl $
-        leaves-loop ! (load ! (from ! (stop !)) (look ! 14 refl)) $ exec ! C Λ E body.t-5 (atRet E Post) $ forget ! 14 refl $ leaves (t .st) (t .good) (t .tb-long) (t .out-long) (said t e)
+        assigns ! (of-opd ! (load ! (from ! (fld ! refl (stop !))) (look-in ! 24 (sub ! 1 refl (whole !))))) (from ! (stop !)) (init ! 16 refl (tt, tt)) $ rewrite ! 16 (λ (z : Bool). ‵ (fat fullShare tyBool l9 0 (vbool z))) e refl $
+        leaves-loop ! (load ! (from ! (stop !)) (look ! 16 refl)) $ exec ! C Λ E body.t-5 (atRet E Post) $ forget ! 16 refl $ leaves (t .st) (t .good) (t .tb-long) (t .out-long) (said t e)
 
     turning : (t : Turn (w .now) j tb out) → Sq W (I t) (runs C Λ E body.turn-1 (anyQ (Turned t)))
     turning t = by-bool (t .st .p .more) (more t) (last t)
@@ -170,38 +180,38 @@ module _ {M : Type 1} (𝓤 : URA M) (H : Heap 𝓤) (A : Atoms 𝓤) (W : Given
     looped : Is P p₀ (valsP p₀) → Sq W (At (begun-at (w .now) j tb out)) (runs C Λ E body.t-4 (atRet E Post))
     looped g = first ! $ blocks ! $ loops ! 𝓣 (Fewer (w .now) j tb out) (Fewer-wf (w .now) j tb out) I turning (first-turn (w .now) j tb out g)
 
-  module _ (𝓣 : Tables 𝓤 H) (known-one : Triple 𝓤 (𝓣 .C #table·one) (One 𝓤 H A W at-mem run)) (known-start : Triple 𝓤 (𝓣 .C #table·start) (Start 𝓤 H A W at-mem run)) where
+  module _ (𝓣 : Tables 𝓤 H) (known-one : Triple 𝓤 (𝓣 .C #table·one) (One 𝓤 H A W at-mem run)) (known-onward : Triple 𝓤 (𝓣 .C #table·onward) (Onward 𝓤 H A W at-mem run)) (known-start : Triple 𝓤 (𝓣 .C #table·start) (Start 𝓤 H A W at-mem run)) where
     walk : ent 𝓤 (onEntry 𝓤 H A go.signature (κ₀, (κ₁, (κ₂, tt))) (q₀, (q₁, (q₂, tt))) a at) (WpFn 𝓤 H (𝓣 .C) (𝓣 .Λ) code.function (sliceVal (w .ptr) (length (w .now)) ∷ valJ j ∷ sliceVal (b, o) (length tb) ∷ sliceVal (c, u) (length out) ∷ []) Post)
     walk =
         let fm : FmC 𝓤 H (W .laws) (𝓣 .C) = fmOf 𝓤 H (W .laws) 𝓣 in
         qed W ((‵ (flft κ₀ q₀) ⊛ ‵ (flft κ₁ q₁) ⊛ ‵ (flft κ₂ q₂) ⊛ ‵ ftrue) ∷ ‵ (owns (ShrSlice (named 0) κ₀ u32 ∷ J ∷ MutSlice (named 1) κ₁ R ∷ MutSlice (named 2) κ₂ u32 ∷ []) a at) ∷ []) ∵
         enter ! (𝓣 .C) (𝓣 .Λ) code.function (sliceVal (w .ptr) (length (w .now)) ∷ valJ j ∷ sliceVal (b, o) (length tb) ∷ sliceVal (c, u) (length out) ∷ []) _ $
-        alloc1 ! (λ l0. alloc1 ! (λ l1. alloc1 ! (λ l2. alloc1 ! (λ l3. alloc1 ! (λ l4. alloc1 ! (λ l5. alloc1 ! (λ l6. alloc1 ! (λ l7. alloc1 ! (λ l8. alloc1 ! (λ l9. alloc1 ! (λ l10. alloc1 ! (λ l11. alloc1 ! (λ l12. alloc0 ! $ params1 ! $
-        pass1 ! (init ! 22 refl (tt, (tt, (record { fits = room₀ .0 }, tt)))) $ pass1 ! (init ! 20 refl (typedJ 𝓤 H A W j is-j)) $ pass1 ! (init ! 18 refl (tt, (tt, (record { fits = room₁ .0 }, tt)))) $ pass1 ! (init ! 16 refl (tt, (tt, (record { fits = room₂ .0 }, tt)))) $ pass0 ! $
-        assigns ! (of-opd ! (load ! (from ! (fld ! refl (stop !))) (look-in ! 18 (sub ! 1 refl (whole !))))) (from ! (stop !)) (init ! 12 refl (tt, record { fits = room₁ .0 })) $
-        assigns ! (of-opd ! (load ! (from ! (fld ! refl (stop !))) (look-in ! 22 (sub ! 1 refl (whole !))))) (from ! (stop !)) (init ! 10 refl (tt, record { fits = room₀ .0 })) $ move ! (27 ∷ []) $ fsplit ! $ move ! (1 ∷ []) $ fsplit ! $ move ! (1 ∷ []) $ fsplit ! $
-        move ! (1 ∷ []) $ fsplit ! $ move ! (31 ∷ []) $ split ! $ move ! (1 ∷ []) $ split ! $ move ! (1 ∷ []) $ split ! $
+        alloc1 ! (λ l0. alloc1 ! (λ l1. alloc1 ! (λ l2. alloc1 ! (λ l3. alloc1 ! (λ l4. alloc1 ! (λ l5. alloc1 ! (λ l6. alloc1 ! (λ l7. alloc1 ! (λ l8. alloc1 ! (λ l9. alloc1 ! (λ l10. alloc1 ! (λ l11. alloc1 ! (λ l12. alloc1 ! (λ l13. alloc1 ! (λ l14. alloc0 ! $ params1 ! $
+        pass1 ! (init ! 26 refl (tt, (tt, (record { fits = room₀ .0 }, tt)))) $ pass1 ! (init ! 24 refl (typedJ 𝓤 H A W j is-j)) $ pass1 ! (init ! 22 refl (tt, (tt, (record { fits = room₁ .0 }, tt)))) $ pass1 ! (init ! 20 refl (tt, (tt, (record { fits = room₂ .0 }, tt)))) $ pass0 ! $
+        assigns ! (of-opd ! (load ! (from ! (fld ! refl (stop !))) (look-in ! 22 (sub ! 1 refl (whole !))))) (from ! (stop !)) (init ! 14 refl (tt, record { fits = room₁ .0 })) $
+        assigns ! (of-opd ! (load ! (from ! (fld ! refl (stop !))) (look-in ! 26 (sub ! 1 refl (whole !))))) (from ! (stop !)) (init ! 12 refl (tt, record { fits = room₀ .0 })) $ move ! (31 ∷ []) $ fsplit ! $ move ! (1 ∷ []) $ fsplit ! $ move ! (1 ∷ []) $ fsplit ! $
+        move ! (1 ∷ []) $ fsplit ! $ move ! (35 ∷ []) $ split ! $ move ! (1 ∷ []) $ split ! $ move ! (1 ∷ []) $ split ! $
         use0 W (raw (Start 𝓤 H A W at-mem run .pre (to-start 𝓤 H A W at-mem run (length tb) (length (w .now)) j))) (start-pre 𝓤 H A W at-mem run (length tb) (length (w .now)) j (room₁ .0) (room₀ .0) is-j) $
-        calls-at ! fm (Start 𝓤 H A W at-mem run) known-start (to-start 𝓤 H A W at-mem run (length tb) (length (w .now)) j) (and-then ! (load ! (from ! (stop !)) (look ! 22 refl)) (and-then ! (load ! (from ! (stop !)) (look ! 20 refl)) (and-then ! (load ! (from ! (stop !)) (look ! 30 refl)) (no-more !)))) (λ v.
+        calls-at ! fm (Start 𝓤 H A W at-mem run) known-start (to-start 𝓤 H A W at-mem run (length tb) (length (w .now)) j) (and-then ! (load ! (from ! (stop !)) (look ! 24 refl)) (and-then ! (load ! (from ! (stop !)) (look ! 22 refl)) (and-then ! (load ! (from ! (stop !)) (look ! 34 refl)) (no-more !)))) (λ v.
         use1 W (later (given ((v ≡ valP p₀) × Is P p₀ (valsP p₀)) (‵ ftrue))) (start-post 𝓤 H A W at-mem run (length tb) (length (w .now)) j v) $ await ! tt $ learn ! (λ e. drop ! $
-        land ! (from ! (stop !)) (init ! 23 refl (subst (λ (z : Val). Holds (hasTy TP′.mir z) × WT z) (sym (e .0)) (typedP 𝓤 H A W p₀ (e .1)))) $ rewrite ! 23 (λ (z : Val). ‵ (fat fullShare TP′.mir l5 0 z)) (e .0) refl $ forget ! 21 refl $ forget ! 19 refl $
-        keep ! (6 ∷ 2 ∷ 4 ∷ 0 ∷ 8 ∷ 3 ∷ 9 ∷ 10 ∷ 11 ∷ 12 ∷ 13 ∷ 14 ∷ 15 ∷ 16 ∷ 17 ∷ 18 ∷ 19 ∷ 20 ∷ 21 ∷ 22 ∷ 23 ∷ 24 ∷ 25 ∷ 26 ∷ 27 ∷ 28 ∷ 29 ∷ 30 ∷ 31 ∷ 32 ∷ 33 ∷ 34 ∷ []) $ looped 𝓣 known-one l0 l1 l2 l3 l4 l5 l6 l7 l8 l9 l10 l11 l12 (e .1))))))))))))))))
+        land ! (from ! (stop !)) (init ! 27 refl (subst (λ (z : Val). Holds (hasTy TP′.mir z) × WT z) (sym (e .0)) (typedP 𝓤 H A W p₀ (e .1)))) $ rewrite ! 27 (λ (z : Val). ‵ (fat fullShare TP′.mir l5 0 z)) (e .0) refl $ forget ! 23 refl $ forget ! 21 refl $
+        keep ! (6 ∷ 2 ∷ 4 ∷ 0 ∷ 8 ∷ 3 ∷ 9 ∷ 10 ∷ 11 ∷ 12 ∷ 13 ∷ 14 ∷ 15 ∷ 16 ∷ 17 ∷ 18 ∷ 19 ∷ 20 ∷ 21 ∷ 22 ∷ 23 ∷ 24 ∷ 25 ∷ 26 ∷ 27 ∷ 28 ∷ 29 ∷ 30 ∷ 31 ∷ 32 ∷ 33 ∷ 34 ∷ 35 ∷ 36 ∷ 37 ∷ 38 ∷ []) $ looped 𝓣 known-one known-onward l0 l1 l2 l3 l4 l5 l6 l7 l8 l9 l10 l11 l12 l13 l14 (e .1))))))))))))))))))
 
 module _ {M : Type 1} (𝓤 : URA M) (H : Heap 𝓤) (A : Atoms 𝓤) (W : Given 𝓤 H A) (at-mem : Memory → SProp 𝓤) (run : Routine → Fun 𝓤) where
-  treat-walks : (𝓣 : Tables 𝓤 H) → Triple 𝓤 (𝓣 .C #table·one) (One 𝓤 H A W at-mem run) → Triple 𝓤 (𝓣 .C #table·start) (Start 𝓤 H A W at-mem run)
+  treat-walks : (𝓣 : Tables 𝓤 H) → Triple 𝓤 (𝓣 .C #table·one) (One 𝓤 H A W at-mem run) → Triple 𝓤 (𝓣 .C #table·onward) (Onward 𝓤 H A W at-mem run) → Triple 𝓤 (𝓣 .C #table·start) (Start 𝓤 H A W at-mem run)
       → Walks 𝓤 H A go.ended stayed (WpFn 𝓤 H (𝓣 .C) (𝓣 .Λ) code.function) (go.clauses 𝓤 H A at-mem run)
-  treat-walks 𝓣 k₁ k₂ = walked 𝓤 H A go.ended stayed (go.clauses 𝓤 H A at-mem run) (WpFn 𝓤 H (𝓣 .C) (𝓣 .Λ) code.function)
+  treat-walks 𝓣 k₁ k₂ k₃ = walked 𝓤 H A go.ended stayed (go.clauses 𝓤 H A at-mem run) (WpFn 𝓤 H (𝓣 .C) (𝓣 .Λ) code.function)
       (λ κs. (slice-vals, (valsJ, (slice-vals, (slice-vals, tt))))) (λ κs. (shr-slice-tells (named 0) (κs .0) u32, (tellsJ, (mut-slice-tells (named 1) (κs .1 .0) R, (mut-slice-tells (named 2) (κs .1 .1 .0) u32, tt)))))
       (λ κs qs bounds a g are. via 𝓤 _ (fst∗ 𝓤 _ (emp 𝓤)) (
       walk 𝓤 H A W at-mem run (κs .0) (κs .1 .0) (κs .1 .1 .0) (qs .0) (qs .1 .0) (qs .1 .1 .0) (a .0) (a .1 .0) (a .1 .1 .0 .ptr .0) (a .1 .1 .0 .ptr .1) (a .1 .1 .0 .name) (a .1 .1 .0 .now) (a .1 .1 .1 .0 .ptr .0) (a .1 .1 .1 .0 .ptr .1) (a .1 .1 .1 .0 .name) (a .1 .1 .1 .0 .now)
-      (are .0 .0 .1) (are .1 .0) (are .1 .1 .0 .0 .1) (are .1 .1 .1 .0 .0 .1) 𝓣 k₁ k₂))
+      (are .0 .0 .1) (are .1 .0) (are .1 .1 .0 .0 .1) (are .1 .1 .1 .0 .0 .1) 𝓣 k₁ k₂ k₃))
 
-treat-meets : {M : Type 1} (𝓤 : URA M) (H : Heap 𝓤) (A : Atoms 𝓤) (W : Given 𝓤 H A) (mem : Memory → SProp 𝓤) (run : Routine → Fun 𝓤) (𝓣 : Tables 𝓤 H) → Triple 𝓤 (𝓣 .C #table·one) (One 𝓤 H A W mem run) → Triple 𝓤 (𝓣 .C #table·start) (Start 𝓤 H A W mem run)
+treat-meets : {M : Type 1} (𝓤 : URA M) (H : Heap 𝓤) (A : Atoms 𝓤) (W : Given 𝓤 H A) (mem : Memory → SProp 𝓤) (run : Routine → Fun 𝓤) (𝓣 : Tables 𝓤 H) → Triple 𝓤 (𝓣 .C #table·one) (One 𝓤 H A W mem run) → Triple 𝓤 (𝓣 .C #table·onward) (Onward 𝓤 H A W mem run) → Triple 𝓤 (𝓣 .C #table·start) (Start 𝓤 H A W mem run)
     → Meets 𝓤 H A go.signature (WpFn 𝓤 H (𝓣 .C) (𝓣 .Λ) code.function) (go.spec 𝓤 H A mem run)
-treat-meets 𝓤 H A W mem run 𝓣 k₁ k₂ =
+treat-meets 𝓤 H A W mem run 𝓣 k₁ k₂ k₃ =
     walk-meets 𝓤 H A go.ended stayed W
     (goes-none-slice 𝓤 H A W 3 (0 ∷ []) tt (plain (λ _. u32)) yes, (goes-none 𝓤 H A W 3 (λ _. J) yes (λ κs x f. refl), (goes-slice 𝓤 H A W 3 1 tt (plain (λ _. R)), (goes-slice 𝓤 H A W 3 2 tt (plain (λ _. u32)), tt)))) (go.clauses 𝓤 H A mem run)
-    (WpFn 𝓤 H (𝓣 .C) (𝓣 .Λ) code.function) (WpFn-mono 𝓤 H (W .laws) 𝓣 code.function) (treat-walks 𝓤 H A W mem run 𝓣 k₁ k₂)
+    (WpFn 𝓤 H (𝓣 .C) (𝓣 .Λ) code.function) (WpFn-mono 𝓤 H (W .laws) 𝓣 code.function) (treat-walks 𝓤 H A W mem run 𝓣 k₁ k₂ k₃)
 
 pub treat-spec : {M : Type 1} → stated.statement M
 unfolding code.routine tablesOf
@@ -210,4 +220,5 @@ treat-spec 𝓤 H 𝓜 𝓖 𝓡 =
     (tables 𝓤 H 𝓜 𝓡 code.env .C) (tables 𝓤 H 𝓜 𝓡 code.env .Λ) #table·treat code.function (code.unfolded 𝓤 H 𝓜 𝓡)
     (treat-meets 𝓤 H (𝓖 .A) (givenOf 𝓤 H 𝓜 𝓖) (𝓜 .mem) (𝓡 .run) (tablesOf 𝓤 H 𝓜 (tables 𝓤 H 𝓜 𝓡 code.env))
     (cited 𝓤 H (One 𝓤 H (𝓖 .A) (givenOf 𝓤 H 𝓜 𝓖) (𝓜 .mem) (𝓡 .run)) 𝓜 𝓡 code.env #table·one one-def.routine code.calls-table·one (one-thm.met 𝓤 H 𝓜 𝓖 𝓡))
+    (cited 𝓤 H (Onward 𝓤 H (𝓖 .A) (givenOf 𝓤 H 𝓜 𝓖) (𝓜 .mem) (𝓡 .run)) 𝓜 𝓡 code.env #table·onward onward-def.routine code.calls-table·onward (onward-thm.met 𝓤 H 𝓜 𝓖 𝓡))
     (cited 𝓤 H (Start 𝓤 H (𝓖 .A) (givenOf 𝓤 H 𝓜 𝓖) (𝓜 .mem) (𝓡 .run)) 𝓜 𝓡 code.env #table·start start-def.routine code.calls-table·start (start-thm.met 𝓤 H 𝓜 𝓖 𝓡)))

@@ -1,0 +1,31 @@
+-- What is asked for over the table: one call, or a run (RULES 3 and 4).
+use Prim.Native.Nat.{ℕ}
+use mathlib.Core.Bool.{Bool, true, false, cond}
+use mathlib.Core.List.{List}
+use Rattle.ump.specs.Packet.{packet}
+use Rattle.stream.specs.Call.{Call, within}
+use Rattle.stream.specs.Run.{Ran, called}
+use Rattle.channel.specs.declared.Record.{Record}
+use Rattle.voice.specs.Packet.{callUp}
+use Rattle.table.specs.Table.{runBy, tableUp}
+use Rattle.table.specs.declared.Job.{Job}
+
+abbrev pub oneCall : Job
+oneCall = record { once = true }
+
+abbrev pub wholeRun : Job
+wholeRun = record { once = false }
+
+-- what a packet does with its record, what a call does with the table, and what is asked of the words
+unfoldable pub recordStep : Job → Record → List ℕ → Call Record
+recordStep job = callUp
+
+unfoldable pub tableStep : Job → List Record → List ℕ → Call (List Record)
+tableStep job = tableUp
+
+abbrev pub askedBy : (List Record → List ℕ → Call (List Record)) → Bool → ℕ → List Record → List ℕ
+    → Ran (ℕ × List Record)
+askedBy step once room t s = cond once (called (packet s) (room, t) (within step (room, t) s)) (runBy step room t s)
+
+unfoldable pub asked : Job → ℕ → List Record → List ℕ → Ran (ℕ × List Record)
+asked job room t s = askedBy (tableStep job) (job .once) room t s
