@@ -4,13 +4,13 @@ use mathlib.Core.Path.{_≡_, refl, sym, _∙_, ap, subst}
 use mathlib.Core.Bool.{Bool, true, false, cond}
 use Prim.Native.Nat.{ℕ, zero, suc, _+_, _-_, _*_, _/_, _%_, _^_, _<_, _≤_}
 use native.Mathlib.Omega.{arith}
-use native.Mathlib.Nat.{pow-suc, mod-eq-of-lt, add-suc, add-zero, add-mod-left, sub-self, div-one, mul-assoc, mod-lt}
-use native.Mathlib.Nat.{lt-trans, one-mul, zero-div}
+use native.Mathlib.Nat.{pow-suc, mod-eq-of-lt, add-suc, add-zero, add-mod-left, sub-self, div-one, mul-assoc}
+use native.Mathlib.Nat.{zero-div, zero-mod}
 use native.Mathlib.Numerals.{add-one}
 use lib.Dec.{leb}
 use borrow.Author.Tests.{le-leb, lt-leb}
 use lib.Arith.{digits-div, digits-lt}
-use lib.Pow.{pow-pos, pow-add, pow-lt, pow-mono, shl-exact, shr-shr, mod-pow-add, field, ones-split, high}
+use lib.Pow.{pow-pos, pow-add, pow-mono, shr-shr, mod-pow-add, field, ones-split, high}
 use Rattle.scale.specs.Scale.{CoreRules, down, fill, up}
 
 -- what is filled in stays below the places that are filled
@@ -24,11 +24,6 @@ pub fill-zero : (m e : ℕ) → fill m 0 e ≡ 0
 unfolding fill
 fill-zero m zero = refl
 fill-zero m (suc e) = omega (arith, fill-zero m e, zero-div (2 ^ (m - 1 - e % m)))
-
--- so it is all one whether what is repeated is picked before the filling or after it
-fill-picked : (t : Bool) (m x e : ℕ) → fill m (cond t 0 x) e ≡ cond t 0 (fill m x e)
-fill-picked true m x e = fill-zero m e
-fill-picked false m x e = refl
 
 cond-lt : (t : Bool) (a b n : ℕ) → a < n → b < n → cond t a b < n
 cond-lt true a b n p q = p
@@ -76,26 +71,6 @@ fill-again m x zero = rw (add-zero m) (fill-part m x m (omega arith) ∙ simp (s
 fill-again m x (suc e) =
     rw (add-suc, add-mod-left, fill-again m x e, pow-suc) (omega (arith, mul-assoc (x % 2 ^ m) (2 ^ e) 2))
 
--- one turn of the loop: a whole copy is added, and the rest has left - m places
-pub copied : (m x left e v : ℕ) → m ≤ left → left ≤ e → e < 32 → v + fill m x left ≡ fill m x e
-    → (v + x % 2 ^ m * 2 ^ (left - m) % 2 ^ 32 < 2 ^ 32)
-    × (v + x % 2 ^ m * 2 ^ (left - m) % 2 ^ 32 + fill m x (left - m) ≡ fill m x e)
-copied m x left e v h i j k =
-    let a : m + (left - m) ≡ left = omega arith in
-    let f : fill m x left ≡ x % 2 ^ m * 2 ^ (left - m) + fill m x (left - m) = rw a at (fill-again m x (left - m)) in
-    let g : fill m x e < 2 ^ 32 = lt-trans (fill-lt m x e) (pow-lt j) in
-    rw (shl-exact m (left - m) 32 (mod-lt x (pow-pos m)) (omega arith)) (omega arith, omega arith)
-
-pub one-shl : (m : ℕ) → m < 32 → 1 * 2 ^ m % 2 ^ 32 ≡ 2 ^ m
-one-shl m h = shl-exact 1 m 32 (omega arith) (omega arith) ∙ one-mul (2 ^ m)
-
--- less than a copy is left
-pub last : (m x left e v : ℕ) → left < m → left ≤ e → e < 32 → v + fill m x left ≡ fill m x e
-    → (v + x % 2 ^ m / 2 ^ (m - left) < 2 ^ 32) × (v + x % 2 ^ m / 2 ^ (m - left) ≡ fill m x e)
-last m x left e v h i j k =
-    let g : fill m x e < 2 ^ 32 = lt-trans (fill-lt m x e) (pow-lt j) in
-    rw (← fill-part m x left (omega arith)) (omega arith, k)
-
 pub up-low : (s d x : ℕ) → x ≤ 2 ^ (s - 1) → up s d x ≡ x * 2 ^ (d - s)
 unfolding up
 up-low s d x h = rw (le-leb x (2 ^ (s - 1)) h) (omega arith)
@@ -104,15 +79,33 @@ pub up-high : (s d x : ℕ) → 2 ^ (s - 1) < x → up s d x ≡ x * 2 ^ (d - s)
 unfolding up
 up-high s d x h = rw (lt-leb x (2 ^ (s - 1)) h)
 
--- the machine's shift loses no bit of a value inside its width; with what is filled in it is the value scaled up, and
--- fits 32 bits
-pub up-sum : (s d x c f : ℕ) → x < 2 ^ s → s ≤ d → d ≤ 32
-    → c ≡ cond (leb x (2 ^ (s - 1))) 0 x → f ≡ fill (s - 1) c (d - s)
-    → (x * 2 ^ (d - s) % 2 ^ 32 + f ≡ up s d x) × (x * 2 ^ (d - s) % 2 ^ 32 + f < 2 ^ 32)
+-- A row of shifts of r, which has m bits: k whole copies, and the l highest bits of one more below them. And the places
+-- that it fills.
+unfoldable pub places : ℕ → ℕ → ℕ → ℕ
+places zero m l = l
+places (suc k) m l = m + places k m l
+
+unfoldable pub row : ℕ → ℕ → ℕ → ℕ → ℕ
+row zero m l r = r / 2 ^ (m - l)
+row (suc k) m l r = r * 2 ^ places k m l + row k m l r
+
+row-fills : (k m l x : ℕ) → l ≤ m → row k m l (x % 2 ^ m) ≡ fill m x (places k m l)
+unfolding row places
+row-fills zero m l x h = sym (fill-part m x l h)
+row-fills (suc k) m l x h = rw (row-fills k m l x h) (sym (fill-again m x (places k m l)))
+
+row-picked : (t : Bool) (k m l x : ℕ) → l ≤ m → row k m l (cond t 0 (x % 2 ^ m)) ≡ cond t 0 (fill m x (places k m l))
+row-picked true k m l x h = rw (zero-mod (2 ^ m)) at (row-fills k m l 0 h) ∙ fill-zero m (places k m l)
+row-picked false k m l x h = row-fills k m l x h
+
+-- the value moved up, with the row of what it repeats, is the value scaled up; so it fits 32 bits
+pub up-row : (s d k l x r : ℕ) → x < 2 ^ s → s ≤ d → d ≤ 32 → l ≤ s - 1 → d - s ≡ places k (s - 1) l
+    → r ≡ cond (leb x (2 ^ (s - 1))) 0 (x % 2 ^ (s - 1))
+    → (x * 2 ^ (d - s) + row k (s - 1) l r ≡ up s d x) × (x * 2 ^ (d - s) + row k (s - 1) l r < 2 ^ 32)
 unfolding up
-up-sum s d x c f h i j e g =
-    let p : x * 2 ^ (d - s) % 2 ^ 32 + f ≡ up s d x =
-    rw (shl-exact s (d - s) 32 h (omega arith), g, e, fill-picked (leb x (2 ^ (s - 1))) (s - 1) x (d - s)) in
+up-row s d k l x r h i j u e f =
+    let p : x * 2 ^ (d - s) + row k (s - 1) l r ≡ up s d x =
+    rw (f, row-picked (leb x (2 ^ (s - 1))) k (s - 1) l x u, ← e) in
     (p, omega (arith, up-lt s d x i h, pow-mono {i = d} {j = 32} j))
 
 up-zero : (s d : ℕ) → up s d 0 ≡ 0

@@ -4,61 +4,44 @@
 // as the width has, are read.
 ghost use mathlib.Core.Path.{_≡_};
 ghost use mathlib.Core.Bool.{cond};
-ghost use Prim.Native.Nat.{_-_, _<_, _≤_, _%_, _^_};
+ghost use Prim.Native.Nat.{_<_, _%_, _^_};
 ghost use lib.Dec.{leb};
-ghost use Rattle.scale.specs.Scale.{CoreRules, down, fill, up};
+ghost use Rattle.scale.specs.Scale.{CoreRules, down, up};
 
-// The lowest m bits of x, repeated highest first through e places: whole copies while one fits,
-// and then the highest bits of one more.
-fn filled(x: u32, m: u32, e: u32) -> u32
-    requires { ⌜ (0 < m) × (m < 32) × (e < 32) ⌝ }
-    ensures { λ r. ⌜ r ≡ fill m x e ⌝ }
+// What a value repeats below itself: nothing up to the centre, and above it all its bits but the highest. It is picked
+// first, so that no branch stands around the shifts.
+fn repeated(x: u32, centre: u32) -> u32
+    requires { ⌜ 0 < centre ⌝ }
+    ensures { λ r. ⌜ r ≡ cond (leb x centre) 0 (x % centre) ⌝ }
 {
-    let copy = x % (1 << m);
-    let mut left = e;
-    let mut v = 0;
-    while m <= left {
-        left -= m;
-        v += copy << left;
-    }
-    v + (copy >> (m - left))
-}
-
-// What a value of s bits repeats below itself: nothing up to the centre, and above it the value.
-fn repeated(x: u32, s: u32) -> u32
-    requires { ⌜ (1 ≤ s) × (s ≤ 32) ⌝ }
-    ensures { λ r. ⌜ r ≡ cond (leb x (2 ^ (s - 1))) 0 x ⌝ }
-{
-    if x <= 1 << (s - 1) { 0 } else { x }
-}
-
-// From s to d bits: what is repeated is picked first, so that no branch stands around the shifts.
-fn scaled_up(x: u32, s: u32, d: u32) -> u32
-    requires { ⌜ (2 ≤ s) × (s < d) × (d ≤ 32) × (x < 2 ^ s) ⌝ }
-    ensures { λ r. ⌜ r ≡ up s d x ⌝ }
-{
-    (x << (d - s)) + filled(repeated(x, s), s - 1, d - s)
+    if x <= centre { 0 } else { x % centre }
 }
 
 // From 7 to 16 bits: velocities.
 pub fn up_7_to_16(x: u32) -> u32
     ensures { λ r. ⌜ r ≡ up 7 16 (x % 2 ^ 7) ⌝ }
 {
-    scaled_up(x % 0x80, 7, 16)
+    let v = x % 0x80;
+    let r = repeated(v, 0x40);
+    (v << 9) + (r << 3) + (r >> 3)
 }
 
 // From 7 to 32 bits: pressure and controllers.
 pub fn up_7_to_32(x: u32) -> u32
     ensures { λ r. ⌜ r ≡ up 7 32 (x % 2 ^ 7) ⌝ }
 {
-    scaled_up(x % 0x80, 7, 32)
+    let v = x % 0x80;
+    let r = repeated(v, 0x40);
+    (v << 25) + (r << 19) + (r << 13) + (r << 7) + (r << 1) + (r >> 5)
 }
 
 // From 14 to 32 bits: pitch bend, registered and assignable controllers.
 pub fn up_14_to_32(x: u32) -> u32
     ensures { λ r. ⌜ r ≡ up 14 32 (x % 2 ^ 14) ⌝ }
 {
-    scaled_up(x % 0x4000, 14, 32)
+    let v = x % 0x4000;
+    let r = repeated(v, 0x2000);
+    (v << 18) + (r << 5) + (r >> 8)
 }
 
 // From 16 to 7 bits.
