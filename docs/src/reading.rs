@@ -81,7 +81,7 @@ impl Record {
             && !(self.kind == REGISTERED && null(self.address_bank, self.address_index))
     }
 
-    /// Makes ready for a new address half; a half of the other kind is not kept.
+    /// Makes ready for a new address half, or for none; a half of another kind is not kept.
     fn begin_address(&mut self, kind: u16) {
         if self.kind != kind {
             self.kind = kind;
@@ -382,12 +382,26 @@ fn up_control_change(word: u32, record: &mut Record, out: &mut [u32]) -> Done {
         6 if record.takes_data() => record.data_high = value,
         38 if record.data_high != MISSING => return up_data(word, record, out),
         6 | 38 | 96 | 97 => (),
-        index => {
-            let first = midi_2_word(word, 0xB, u32::from(index) << 8);
-            return send(1, [first, SCALED_7_TO_32[(word & 127) as usize]], out);
-        }
+        121 => return up_reset(word, record, out),
+        _ => return up_plain(word, out),
     }
     refused(TAKEN_IN, 1)
+}
+
+/// A controller with its own index.
+#[inline(always)]
+fn up_plain(word: u32, out: &mut [u32]) -> Done {
+    let first = midi_2_word(word, 0xB, word & 0x7F00);
+    send(1, [first, SCALED_7_TO_32[(word & 127) as usize]], out)
+}
+
+/// Reset All Controllers goes on as itself and closes the address; the bank halves stay.
+fn up_reset(word: u32, record: &mut Record, out: &mut [u32]) -> Done {
+    let done = up_plain(word, out);
+    if done.answer == SENT {
+        record.begin_address(NONE);
+    }
+    done
 }
 
 /// The registered or assignable controller that data low completes.

@@ -388,6 +388,7 @@ fn every_control_change_up_from_a_full_record() {
             101 => (record(REGISTERED, [1, 2, 0x41, M, M]), true),
             6 => (record(ASSIGNABLE, [1, 2, 3, 4, 0x41]), true),
             96 | 97 => (record(ASSIGNABLE, full), true),
+            121 => (record(NONE, [1, 2, M, M, M]), false),
             _ => (record(ASSIGNABLE, full), false),
         };
         let plain = sent(1, &[0x45BA0000 | index << 8, 0x82082082]);
@@ -451,14 +452,31 @@ fn half_a_bank_is_not_sent_and_is_spent() {
 }
 
 #[test]
-fn reset_of_all_controllers_leaves_the_record() {
+fn reset_of_all_controllers_closes_the_address() {
+    for kind in [REGISTERED, ASSIGNABLE] {
+        for (word, second) in [(0x20B07900, 0), (0x20B0797F, 0xFFFF_FFFF)] {
+            let mut table = fresh();
+            table[0] = record(kind, [1, 2, 3, 4, 5]);
+            assert_eq!(up_with(&mut table, &[word]), sent(1, &[0x40B07900, second]));
+            assert_eq!(table[0], record(NONE, [1, 2, M, M, M]));
+        }
+    }
+}
+
+#[test]
+fn a_reset_without_room_changes_nothing() {
     let mut table = fresh();
     table[0] = record(REGISTERED, [1, 2, 3, 4, 5]);
-    assert_eq!(
-        up_with(&mut table, &[0x20B07900]),
-        sent(1, &[0x40B07900, 0])
-    );
+    assert_eq!(up(&[0x20B07900], &mut table, &mut [0]).answer, OUTPUT_SHORT);
     assert_eq!(table[0], record(REGISTERED, [1, 2, 3, 4, 5]));
+}
+
+#[test]
+fn after_a_reset_the_data_slider_sends_nothing() {
+    let stream = [0x20B06500, 0x20B06400, 0x20B07900, 0x20B00602, 0x20B02600];
+    let (answers, words) = up_all(&mut fresh(), &stream);
+    assert_eq!(answers, [1, 1, 0, 1, 1]);
+    assert_eq!(words, [0x40B07900, 0]);
 }
 
 #[test]

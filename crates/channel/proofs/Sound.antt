@@ -7,7 +7,7 @@ use native.Mathlib.Omega.{arith}
 use borrow.Author.Tests.{eq-eqb, eqb-false, eqb-true, le-leb, le-ltb, leb-true, lt-leb, lt-ltb, ltb-false, ltb-true, ne-eqb, not-true}
 use Rattle.ground.proofs.Cases.{by-bool}
 use Rattle.channel.specs.declared.Record.{Record}
-use Rattle.channel.specs.Record.{StaysSound, addressed, complete, dataHighPresent, kept, null, number, present, sound, withAddressBank, withAddressIndex, withBankHigh, withBankLow, withBankSpent, withDataHigh}
+use Rattle.channel.specs.Record.{StaysSound, addressed, complete, dataHighPresent, kept, null, number, present, sound, withAddressBank, withAddressClosed, withAddressIndex, withBankHigh, withBankLow, withBankSpent, withDataHigh}
 use Rattle.ground.proofs.Bools.{and-false, and-left, and-right, bools}
 
 -- The tree of the code, way by way, over the tests. `m`: the bank halves are numbers; `l` and `z`: the kind is at most 2, is
@@ -192,6 +192,10 @@ bank-spent-sound : (r : Record) → sound r ≡ true → sound (withBankSpent r)
 unfolding sound
 bank-spent-sound r t = let p = parts r t in simp (p .kind-known, p .bank, p .index, p .data-number, p .bare, p .opened)
 
+address-closed-sound : (r : Record) → sound r ≡ true → sound (withAddressClosed r) ≡ true
+unfolding sound
+address-closed-sound r t = let p = parts r t in simp (p .high, p .low)
+
 kept-number : (o k half : ℕ) → number half ≡ true → number (kept o k half) ≡ true
 unfolding kept
 kept-number o k half h = go (eqb o k)
@@ -240,5 +244,6 @@ proved-stays-sound =
       assignable-bank = address-bank-sound 2 refl refl;
       assignable-index = address-index-sound 2 refl refl;
       data-high = data-high-sound;
+      address-closed = address-closed-sound;
       bank-spent = bank-spent-sound;
     }

@@ -117,6 +117,10 @@ unfoldable pub withDataHigh : Record → ℕ → Record
 withDataHigh r v =
     cond (complete r && not (null r)) (addressed (r .kind) (r .«address_bank») (r .«address_index») v r) r
 
+-- after control change 121 no address is left, and no data high (RULES 5.6; 02 M-101)
+abbrev pub withAddressClosed : Record → Record
+withAddressClosed r = addressed noAddress missing missing missing r
+
 -- after a program change no bank is left
 abbrev pub withBankSpent : Record → Record
 withBankSpent r = banked missing missing r
@@ -135,4 +139,5 @@ pub record StaysSound : Type 0 where
   pub assignable-bank : KeepsSound (withAddressBank assignable)
   pub assignable-index : KeepsSound (withAddressIndex assignable)
   pub data-high : KeepsSound withDataHigh
+  pub address-closed : (r : Record) → sound r ≡ true → sound (withAddressClosed r) ≡ true
   pub bank-spent : (r : Record) → sound r ≡ true → sound (withBankSpent r) ≡ true

@@ -7,8 +7,8 @@
 ghost use mathlib.Core.Path.{_≡_};
 ghost use Rattle.channel.specs.Record.{StaysSound, addressed, assignable, banked, complete, dataHighPresent};
 ghost use Rattle.channel.specs.Record.{empty, fresh, kept, null, number, registered, sound, withAddressBank};
-ghost use Rattle.channel.specs.Record.{withAddressIndex, withBankHigh, withBankLow, withBankSpent};
-ghost use Rattle.channel.specs.Record.{withDataHigh};
+ghost use Rattle.channel.specs.Record.{withAddressClosed, withAddressIndex, withBankHigh, withBankLow};
+ghost use Rattle.channel.specs.Record.{withBankSpent, withDataHigh};
 
 // How many records a table has: one for each channel of each group.
 pub const RECORDS: usize = 256;
@@ -214,6 +214,13 @@ impl Record {
         } else {
             self
         }
+    }
+
+    // Control change 121: no address is left, and no data high with it.
+    pub fn with_address_closed(self) -> Record
+        ensures { λ r. ⌜ r ≡ withAddressClosed self ⌝ }
+    {
+        self.addressed(NONE, MISSING, MISSING, MISSING)
     }
 
     // After a program change.

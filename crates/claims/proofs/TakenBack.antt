@@ -1,6 +1,6 @@
 -- Messages: going up undoes going down, record by record. Assumes nothing.
 use Prim.Native.Nat.{_/_, _%_, _^_}
-use mathlib.Core.Path.{_≡_, refl}
+use mathlib.Core.Path.{_≡_, refl, _∙_}
 use mathlib.Core.Bool.{true}
 use mathlib.Core.Option.{Option, none, some}
 use mathlib.Core.List.{List, [], _∷_, _++_}
@@ -14,7 +14,7 @@ use Rattle.channel.specs.Record.{kept, missing, sound, withDataHigh}
 use Rattle.message.specs.Message.{Fits1, Midi1, Midi2, noBank}
 use Rattle.lift.specs.Lift.{addressed2, banked2, controlOf, controlled, dataLow, lift}
 use Rattle.lift.proofs.LiftLaws.{Upward, anyAssignable, anyBankProgram, anyBend, anyNoteOff, anyNoteOn, anyPlain}
-use Rattle.lift.proofs.LiftLaws.{anyPolyPressure, anyPressure, anyProgram, anyRegistered, lift-sound, plain-control}
+use Rattle.lift.proofs.LiftLaws.{anyPolyPressure, anyPressure, anyProgram, anyRegistered, lift-sound, own-control}
 use Rattle.lower.specs.Lower.{lower, sounding}
 
 -- messages into one record, in a row: the record after, and all that is sent
@@ -90,7 +90,9 @@ taken-back r _ w (anyNoteOff h x) = (rw (x .1), w)
 taken-back r _ w (anyNoteOn {n} {v} h x z) =
     rw (ne-eqb (down 16 7 v) 0 z) (rw (ne-eqb (down 16 7 v) 0 z, x .1) (refl, w))
 taken-back r _ w (anyPolyPressure h x) = (rw (x .1), w)
-taken-back r _ w (anyPlain {i} h x e) = rw e (rw (plain-control i e, x .1) (refl, w))
+taken-back r _ w (anyPlain {i} {v} h x e) =
+    let y = own-control r i (down 32 7 v) e in
+    rw e (rw (y .0, x .1), y .1 ∙ w)
 taken-back r _ w (anyProgram h) = (rw w, refl)
 taken-back r _ w (anyBankProgram {p} {h} {l} hp hh hl) =
     (simp (banked2, ne-eqb h missing (λ e. omega arith), ne-eqb l missing (λ e. omega arith)), refl)

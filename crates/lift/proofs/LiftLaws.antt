@@ -2,13 +2,13 @@
 -- going up can send. Assumes nothing.
 use Prim.Native.Nat.{ℕ, _+_, _*_, _%_, _^_, _<_, _≤_}
 use mathlib.Core.Path.{_≡_, refl, sym, ap, _∙_}
-use mathlib.Core.Bool.{Bool, true, false, _&&_}
+use mathlib.Core.Bool.{Bool, true, false, true≢false, _&&_}
 use mathlib.Core.Option.{Option, none, some}
 use native.Mathlib.Omega.{arith}
 use lib.Dec.{eqb, leb}
-use borrow.Author.Tests.{eqb-false, leb-true, lt-leb, ne-eqb, not-true}
+use borrow.Author.Tests.{eqb-false, eqb-true, leb-true, lt-leb, ne-eqb, not-true}
 use Rattle.ground.proofs.Bools.{and-left, and-right, or-false}
-use Rattle.ground.proofs.Cases.{choose, not-both}
+use Rattle.ground.proofs.Cases.{by-bool, choose, not-both}
 use Rattle.scale.specs.Scale.{down, up}
 use Rattle.scale.proofs.Laws.{down-up, proved-core-rules, up-lt}
 use Rattle.ump.specs.Word.{status}
@@ -21,8 +21,9 @@ use Rattle.message.specs.Message.{noteOn2, part, pitchBend1, pitchBend2, polyPr
 use Rattle.message.specs.Message.{programChange2, read1, registered2}
 use Rattle.lift.specs.declared.Control.{Control}
 use Rattle.lift.specs.declared.Control.the-variants.{AssignableBank, AssignableIndex, BankHigh, BankLow, DataHigh}
-use Rattle.lift.specs.declared.Control.the-variants.{DataLow, Nothing, Plain, RegisteredBank, RegisteredIndex}
-use Rattle.lift.specs.Lift.{Lifted, addressed2, banked2, changes, changing, controlOf, controlled, dataLow, lift}
+use Rattle.lift.specs.declared.Control.the-variants.{DataLow, Nothing, Plain, RegisteredBank, RegisteredIndex, Reset}
+use Rattle.lift.specs.Lift.{Lifted, addressed2, banked2, changes, changing, controlOf, controlled, dataLow}
+use Rattle.lift.specs.Lift.{lift, reset}
 
 pub read1-fits : (w : ℕ) → Fits1 (read1 w)
 unfolding read1
@@ -52,15 +53,16 @@ unchanging r (controlChange1 i v) h = go (controlOf i) h
     go DataHigh h = not-both (sym h)
     go DataLow h = choose (λ (x : Lifted). x .after ≡ r) (dataHighPresent r) (λ _. refl) (λ _. refl)
     go Nothing h = refl
+    go Reset h = not-both (sym h)
     go Plain h = refl
 unchanging r (programChange1 p) h = not-both (sym h)
 unchanging r (channelPressure1 v) h = refl
 unchanging r (pitchBend1 v) h = refl
 
--- a controller that has a form of its own is sent as itself, and no other is
-pub plain-control : (i : ℕ) → part i ≡ false → controlOf i ≡ Plain
+-- a controller that has a form of its own is plain, but for the one that resets all others
+pub plain-control : (i : ℕ) → part i ≡ false → eqb i reset ≡ false → controlOf i ≡ Plain
 unfolding controlOf
-plain-control i h =
+plain-control i h n =
     rw (
       no 0 refl,
       no 32 refl,
@@ -72,24 +74,46 @@ plain-control i h =
       no 38 refl,
       no 96 refl,
       no 97 refl,
+      n,
     )
   where
     no : (k : ℕ) → part k ≡ true → eqb i k ≡ false
     no k t = ne-eqb i k (λ e. not-both (sym h ∙ ap part e ∙ t))
 
-only-plain : (i : ℕ) → controlOf i ≡ Plain → part i ≡ false
+reset-control : (i : ℕ) → eqb i reset ≡ true → controlOf i ≡ Reset
 unfolding controlOf
-only-plain i e =
-    rw (
-      ne-eqb i 0 (no 0 (λ x. cc)),
-      ne-eqb i 6 (no 6 (λ x. cc)),
-      ne-eqb i 32 (no 32 (λ x. cc)),
-      ne-eqb i 38 (no 38 (λ x. cc)),
-    )
+reset-control i e = rw (eqb-true i reset e)
+
+-- it is sent as itself, and the bank stays
+pub own-control : (r : Record) (i v : ℕ) → part i ≡ false
+    → (controlled (controlOf i) r i v .sends ≡ some (controlChange2 i (up 7 32 v)))
+    × (banked2 (controlled (controlOf i) r i v .after) ≡ banked2 r)
+unfolding controlled banked2
+own-control r i v h =
+    by-bool (eqb i reset) (λ e. rw (reset-control i e) (refl, refl)) (λ e. rw (plain-control i h e) (refl, refl))
+
+-- and no other is
+asItself : Control → Bool
+asItself BankHigh = false
+asItself BankLow = false
+asItself RegisteredBank = false
+asItself RegisteredIndex = false
+asItself AssignableBank = false
+asItself AssignableIndex = false
+asItself DataHigh = false
+asItself DataLow = false
+asItself Nothing = false
+asItself Reset = true
+asItself Plain = true
+
+only-own : (i : ℕ) → asItself (controlOf i) ≡ true → part i ≡ false
+unfolding controlOf asItself
+only-own i e =
+    rw (ne-eqb i 0 (no 0 refl), ne-eqb i 6 (no 6 refl), ne-eqb i 32 (no 32 refl), ne-eqb i 38 (no 38 refl))
     (go (leb 96 i) refl)
   where
-    no : (k : ℕ) → (controlOf k ≡ Plain → _≡_ {A = ℕ} 0 1) → i ≡ k → ⊥
-    no k n q = let z = n (rw q at e) in omega arith
+    no : (k : ℕ) → asItself (controlOf k) ≡ false → i ≡ k → ⊥
+    no k n q = true≢false (sym (rw q at e) ∙ n)
 
     above : (i ≡ 96 → ⊥) → (i ≡ 97 → ⊥) → (i ≡ 98 → ⊥) → (i ≡ 99 → ⊥) → (i ≡ 100 → ⊥) → (i ≡ 101 → ⊥) → 96 ≤ i → 101 < i
     above a b c d e f h = omega arith
@@ -98,9 +122,7 @@ only-plain i e =
     go false h = refl
     go true h =
         lt-leb i 101
-        (above (no 96 (λ x. cc)) (no 97 (λ x. cc)) (no 98 (λ x. cc)) (no 99 (λ x. cc)) (no 100 (λ x. cc))
-        (no 101 (λ x. cc))
-        (leb-true 96 i h))
+        (above (no 96 refl) (no 97 refl) (no 98 refl) (no 99 refl) (no 100 refl) (no 101 refl) (leb-true 96 i h))
 
 -- a value that was scaled up: scaled down, it fits, and scaled up again it is what it was
 abbrev pub Scaled : ℕ → ℕ → ℕ → Type 0
@@ -158,7 +180,7 @@ module _ (r : Record) (ok : sound r ≡ true) where
       (λ _. tt)
 
   pub lift-upward : (m : Midi1) → Fits1 m → IfSome Upward (lift r m .sends)
-  unfolding lift controlled banked2
+  unfolding lift controlled banked2 asItself
   lift-upward (noteOff1 n v) h = anyNoteOff (h .0) (scaled 7 16 v (omega arith))
   lift-upward (noteOn1 n v) h =
       choose Upward (eqb v 0) (λ _. anyNoteOff (h .0) (omega arith, proved-core-rules .minimum 7 16))
@@ -176,7 +198,8 @@ module _ (r : Record) (ok : sound r ≡ true) where
       go DataHigh e = tt
       go DataLow e = data-low-upward v (h .1)
       go Nothing e = tt
-      go Plain e = anyPlain (h .0) (scaled 7 32 v (omega arith)) (only-plain i e)
+      go Reset e = anyPlain (h .0) (scaled 7 32 v (omega arith)) (only-own i (ap asItself e))
+      go Plain e = anyPlain (h .0) (scaled 7 32 v (omega arith)) (only-own i (ap asItself e))
   lift-upward (programChange1 p) h =
       let q = parts r ok in
       choose (λ (b : Bank). Upward (programChange2 p b)) (present (r .«bank_high») && present (r .«bank_low»))
@@ -207,6 +230,7 @@ module _ (r : Record) (ok : sound r ≡ true) where
       go DataHigh = proved-stays-sound .data-high r v (h .1) ok
       go DataLow = choose (λ (x : Lifted). sound (x .after) ≡ true) (dataHighPresent r) (λ _. ok) (λ _. ok)
       go Nothing = ok
+      go Reset = proved-stays-sound .address-closed r ok
       go Plain = ok
   lift-sound (programChange1 p) h = proved-stays-sound .bank-spent r ok
   lift-sound (channelPressure1 v) h = ok

@@ -7,15 +7,19 @@ use lib.Dec.{eqb}
 use Rattle.scale.specs.Scale.{up}
 use Rattle.channel.specs.declared.Record.{Record}
 use Rattle.channel.specs.Record.{assignable, dataHighPresent, present, registered, withAddressBank, withAddressIndex}
-use Rattle.channel.specs.Record.{withBankHigh, withBankLow, withBankSpent, withDataHigh}
+use Rattle.channel.specs.Record.{withAddressClosed, withBankHigh, withBankLow, withBankSpent, withDataHigh}
 use Rattle.lift.specs.declared.Control.{Control}
 use Rattle.lift.specs.declared.Control.the-variants.{BankHigh, BankLow, RegisteredBank, RegisteredIndex}
 use Rattle.lift.specs.declared.Control.the-variants.{AssignableBank, AssignableIndex, DataHigh, DataLow}
-use Rattle.lift.specs.declared.Control.the-variants.{Nothing, Plain}
+use Rattle.lift.specs.declared.Control.the-variants.{Nothing, Plain, Reset}
 use Rattle.message.specs.Message.{Bank, Midi1, Midi2, assignable2, bank, channelPressure1, channelPressure2}
 use Rattle.message.specs.Message.{controlChange1, controlChange2, noBank, noteOff1, noteOff2, noteOn1, noteOn2}
 use Rattle.message.specs.Message.{pitchBend1}
 use Rattle.message.specs.Message.{pitchBend2, polyPressure1, polyPressure2, programChange1, programChange2, registered2}
+
+-- the controller that resets all others (02 M-101)
+abbrev pub reset : ℕ
+reset = 121
 
 -- what each control change does (RULES 6.3); all that are not named here are plain
 unfoldable pub controlOf : ℕ → Control
@@ -28,7 +32,8 @@ controlOf i =
     (cond (eqb i 98) AssignableIndex
     (cond (eqb i 6) DataHigh
     (cond (eqb i 38) DataLow
-    (cond (eqb i 96 || eqb i 97) Nothing Plain))))))))
+    (cond (eqb i 96 || eqb i 97) Nothing
+    (cond (eqb i reset) Reset Plain)))))))))
 
 pub record Lifted : Type 0 where
   pub after : Record
@@ -67,6 +72,7 @@ controlled AssignableIndex r i v = quiet (withAddressIndex assignable r v)
 controlled DataHigh r i v = quiet (withDataHigh r v)
 controlled DataLow r i v = dataLow r v
 controlled Nothing r i v = quiet r
+controlled Reset r i v = plain (withAddressClosed r) i v
 controlled Plain r i v = plain r i v
 
 -- the bank that goes with a program: both halves, or none (RULES 6.5)
@@ -96,6 +102,7 @@ changing AssignableIndex = true
 changing DataHigh = true
 changing DataLow = false
 changing Nothing = false
+changing Reset = true
 changing Plain = false
 
 unfoldable pub changes : Midi1 → Bool

@@ -22,6 +22,9 @@ ghost use Rattle.lift.specs.Lift.{controlOf, dataLow, shownStatus};
 ghost use Rattle.lift.specs.Lift;
 ghost use Rattle.lift.specs.Values.{controlIn, messageIn, noteIn, saying, silent};
 
+// The controller that resets all others, and closes the address.
+const RESET: u8 = 121;
+
 // What a message becomes: the record after it, whether the record may have changed, and the two
 // words of a MIDI 2.0 message or none.
 pub struct UpwardMessage {
@@ -43,6 +46,7 @@ pub enum Control {
     DataHigh,
     DataLow,
     Nothing,
+    Reset,
     Plain,
 }
 
@@ -95,6 +99,7 @@ fn control_of(i: u8) -> Control
         38 => Control::DataLow,
         96 => Control::Nothing,
         97 => Control::Nothing,
+        RESET => Control::Reset,
         _ => Control::Plain,
     }
 }
@@ -138,10 +143,11 @@ fn data_low(record: Record, w: u32) -> UpwardMessage
     }
 }
 
-fn plain(record: Record, w: u32) -> UpwardMessage
-    ensures { λ r. ⌜ r ≡ controlIn w false (Lift.plain «record» (Word.data1 w) (Word.data2 w)) ⌝ }
+// A controller that is sent as itself, with the record after it.
+fn plain(after: Record, changes: bool, w: u32) -> UpwardMessage
+    ensures { λ r. ⌜ r ≡ controlIn w changes (Lift.plain after (Word.data1 w) (Word.data2 w)) ⌝ }
 {
-    sent_up(record, false, 11, data1(w), 0, w, seven_bits(data2(w)))
+    sent_up(after, changes, 11, data1(w), 0, w, seven_bits(data2(w)))
 }
 
 fn controlled(control: Control, record: Record, w: u32) -> UpwardMessage
@@ -159,19 +165,20 @@ fn controlled(control: Control, record: Record, w: u32) -> UpwardMessage
         Control::DataHigh => taken_in(record.with_data_high(v), true),
         Control::DataLow => data_low(record, w),
         Control::Nothing => taken_in(record, false),
-        Control::Plain => plain(record, w),
+        Control::Reset => plain(record.with_address_closed(), true, w),
+        Control::Plain => plain(record, false, w),
     }
 }
 
-// One test parts the controllers that are sent as themselves from those that are not.
+// One test parts the controllers that are sent as themselves and leave the record from the rest.
 fn control_change(record: Record, w: u32) -> UpwardMessage
     ensures { λ r. ⌜ r ≡ messageIn w «record» (controlChange1 (Word.data1 w) (Word.data2 w)) ⌝ }
 {
     let i = data1(w);
-    if message::is_part(i) {
+    if message::is_part(i) | (i == RESET) {
         controlled(control_of(i), record, w)
     } else {
-        plain(record, w)
+        plain(record, false, w)
     }
 }
 

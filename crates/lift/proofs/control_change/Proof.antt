@@ -1,8 +1,9 @@
--- `lift::control_change` meets its contract: one test parts the controllers that are sent as themselves. Assumes
--- nothing.
-use Rattle.ground.proofs.Tests.{tests}
+-- `lift::control_change` meets its contract: one test parts the controllers that are sent as themselves and leave
+-- the record. Assumes nothing.
+use Rattle.ground.proofs.Bools.{neither-left, neither-right}
+use lib.Dec.{eqb}
 use mathlib.Core.Path.{sym, _∙_}
-use Rattle.lift.specs.Lift.{changes, changing, controlled, lift}
+use Rattle.lift.specs.Lift.{changes, changing, controlled, lift, reset}
 use Rattle.lift.proofs.LiftLaws.{plain-control}
 use borrow.Author.Needs.{needs}
 use Rattle.lift.proofs.control_change.Statement.{statement}
@@ -15,7 +16,9 @@ control-change-spec =
     (tie.spec
     (λ c κs. search needs) (λ c κs. search needs) (λ c κs. search needs) (λ c κs. search needs)
     (λ c κs. search needs)
-    (λ c. simp (tests, c .controlled .ensures, c .before .control-of .ensures, c .before .before .if1 .taken, ← c .before .before .before .is-part .ensures, c .before .before .before .before .data1 .ensures))
+    (λ c. simp (c .controlled .ensures, c .before .control-of .ensures, c .before .before .before .before .data1 .ensures))
     (λ c. let i = c .before .before .before .data1 in
-    let e = plain-control (i .result) (sym (c .before .before .is-part .ensures) ∙ c .before .if1 .left) in
+    let p = c .before .before .is-part in
+    let t = c .before .if1 .left in
+    let e = plain-control (i .result) (sym (p .ensures) ∙ neither-left (p .result) (eqb (i .result) reset) t) (neither-right (p .result) (eqb (i .result) reset) t) in
     simp (c .plain .ensures, rw (i .ensures) at e)))

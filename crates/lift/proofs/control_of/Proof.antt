@@ -19,4 +19,5 @@ control-of-spec =
     (λ c. simp (c .match .keys8))
     (λ c. simp (c .match .keys9))
     (λ c. simp (c .match .keys10))
-    (λ c. simp (tests, c .match .rest .1, c .match .rest .0 .1, c .match .rest .0 .0 .1, c .match .rest .0 .0 .0 .1, c .match .rest .0 .0 .0 .0 .1, c .match .rest .0 .0 .0 .0 .0 .1, c .match .rest .0 .0 .0 .0 .0 .0 .1, c .match .rest .0 .0 .0 .0 .0 .0 .0 .1, c .match .rest .0 .0 .0 .0 .0 .0 .0 .0 .1, c .match .rest .0 .0 .0 .0 .0 .0 .0 .0 .0 .1)))
+    (λ c. simp (c .match .keys11))
+    (λ c. simp (tests, c .match .rest .1, c .match .rest .0 .1, c .match .rest .0 .0 .1, c .match .rest .0 .0 .0 .1, c .match .rest .0 .0 .0 .0 .1, c .match .rest .0 .0 .0 .0 .0 .1, c .match .rest .0 .0 .0 .0 .0 .0 .1, c .match .rest .0 .0 .0 .0 .0 .0 .0 .1, c .match .rest .0 .0 .0 .0 .0 .0 .0 .0 .1, c .match .rest .0 .0 .0 .0 .0 .0 .0 .0 .0 .1, c .match .rest .0 .0 .0 .0 .0 .0 .0 .0 .0 .0 .1)))
