@@ -8,3 +8,4 @@ pub mod PacketByPacket
 pub mod RoomLaws
 pub mod RoundTrip
 pub mod NormalForm
+pub mod PlaceLaws

@@ -17,7 +17,7 @@ use Rattle.stream.specs.Answers.{stopsRun, takenIn, wrongProtocol}
 use Rattle.stream.specs.Call.{Call, answerOf, fit, leftOf, readOf, refused, sentOf, went, within}
 use Rattle.stream.proofs.CallLaws.{refusal, refused-fits}
 use Rattle.stream.proofs.RunLaws.{does-left, within-does}
-use Rattle.screen.specs.Check.{checkedFields, goodFields, goodStatus}
+use Rattle.fields.specs.Check.{badPlaceOf, checkedFields, goodFields, goodStatus}
 use Rattle.screen.specs.Screen.{answering, goesOn, reserved, screen}
 use Rattle.screen.proofs.ScreenLaws.{passed}
 use Rattle.channel.specs.declared.Record.{Record}
@@ -39,13 +39,13 @@ unfolding screen
 screening wrong p cs =
     go (eqb (length p) 0) (reserved (messageType (first p))) (eqb (messageType (first p)) wrong)
     (not (goodStatus (first p)))
-    (not (goodFields (checkedFields (first p) (second p))))
+    (goodFields (checkedFields (first p) (second p)))
   where
     go : (a b c d e : Bool) →
         let x = cond a (answering cutPacket) (cond b (answering reservedType) (cond c (answering wrongProtocol)
-        (cond d (answering badStatus) (cond e (answering badData) (answering goesOn))))) in
+        (cond d (answering badStatus) (cond e (answering goesOn) (record { answer = badData; place = badPlaceOf p }))))) in
         numbered
-        (case cutPacket a ∷ case reservedType b ∷ case wrongProtocol c ∷ case badStatus d ∷ case badData e ∷ cs)
+        (case cutPacket a ∷ case reservedType b ∷ case wrongProtocol c ∷ case badStatus d ∷ case badData (not e) ∷ cs)
         ≡ cond (eqb (x .answer) goesOn) (numbered cs) (x .answer)
     go true b c d e = refl
     go false true c d e = refl

@@ -10,7 +10,7 @@ use Rattle.ump.specs.Packet.{first, packet, second, size}
 use Rattle.stream.specs.Answers.{badData, badStatus, cutPacket, noForm, noRoom, noTable, notSound, reservedType, sent}
 use Rattle.stream.specs.Answers.{stopsRun, takenIn, wrongProtocol}
 use Rattle.stream.specs.Call.{Call, answerOf, leftOf, readOf, sentOf, within}
-use Rattle.screen.specs.Check.{checkedFields, goodFields, goodStatus}
+use Rattle.fields.specs.Check.{checkedFields, goodFields, goodStatus}
 use Rattle.screen.specs.Screen.{reserved}
 use Rattle.channel.specs.declared.Record.{Record}
 use Rattle.channel.specs.Record.{empty, sound, wholeTable}

@@ -2,6 +2,7 @@
 // proofs/; the functions below do nothing and ensure them, so that a check names each.
 ghost use Rattle.claims.specs.NormalForm.{NormalForm};
 ghost use Rattle.claims.specs.PacketByPacket.{PacketByPacket};
+ghost use Rattle.claims.specs.Places.{Places};
 ghost use Rattle.claims.specs.Refusals.{Refusals};
 ghost use Rattle.claims.specs.Room.{Room};
 ghost use Rattle.claims.specs.RoundTrip.{RoundTrip, RoundTripGated};
@@ -9,6 +10,11 @@ ghost use Rattle.claims.specs.RoundTrip.{RoundTrip, RoundTripGated};
 // Demand 1: a refusal only in its case, in the order of the list.
 pub fn refusals()
     ensures { λ _. ⌜ Refusals ⌝ }
+{}
+
+// Which field was bad: the first, and a place is told with answer 7 alone.
+pub fn places()
+    ensures { λ _. ⌜ Places ⌝ }
 {}
 
 // Demand 2: a run is the calls of its packets.

@@ -5,6 +5,7 @@
 // these functions are proved to be safe and to end.
 mod summary;
 
+use flow::SORTS;
 use flow::Table;
 use libc::STDIN_FILENO;
 use libc::STDOUT_FILENO;
@@ -97,7 +98,7 @@ fn sent_as_bytes(
     table: Table,
     totals: Totals,
     done: Done,
-    counts: [u64; 8],
+    counts: [u64; SORTS],
     sent: &[u32],
     text: &mut [u8],
 ) -> Translated

@@ -1,18 +1,16 @@
 // What a filter says at the end: one line, and none where nothing was refused and nothing cut.
+use flow::SORTS;
 use libc::STDERR_FILENO;
 use stream::BAD_DATA;
-use stream::BAD_STATUS;
 use stream::Done;
 use stream::NO_FORM;
-use stream::RESERVED;
-use stream::WRONG_PROTOCOL;
 ghost use Prim.Native.Nat.{_≤_, _^_};
 
-// The words read and written in all, and how often each answer came, at its number.
+// The words read and written in all, and how often each sort of packet came, at its number.
 pub(crate) struct Totals {
     read: u64,
     written: u64,
-    counts: [u64; 8],
+    counts: [u64; SORTS],
 }
 
 impl Totals {
@@ -20,15 +18,15 @@ impl Totals {
         Totals {
             read: 0,
             written: 0,
-            counts: [0; 8],
+            counts: [0; SORTS],
         }
     }
 
     // With what another buffer came to.
-    pub(crate) fn and(self, done: Done, more: [u64; 8]) -> Totals {
+    pub(crate) fn and(self, done: Done, more: [u64; SORTS]) -> Totals {
         let mut counts = self.counts;
         let mut i = 0;
-        while i < 8 {
+        while i < SORTS {
             counts[i] = std::num::wrapping_add_u64(counts[i], more[i]);
             i += 1;
         }
@@ -41,7 +39,7 @@ impl Totals {
 }
 
 // The most that a line can have, and more than any has.
-const LINE_BYTES: usize = 0x100;
+const LINE_BYTES: usize = 0x200;
 
 // A line in the making: its first bytes.
 struct Line {
@@ -51,7 +49,7 @@ struct Line {
 
 impl Line {
     fn empty() -> Line
-        ensures { λ r. ⌜ r .len ≤ 2 ^ 8 ⌝ }
+        ensures { λ r. ⌜ r .len ≤ 2 ^ 9 ⌝ }
     {
         Line {
             bytes: [0; LINE_BYTES],
@@ -61,8 +59,8 @@ impl Line {
 
     // With more bytes after it, as far as there is room.
     fn with(self, more: &[u8]) -> Line
-        requires { ⌜ self .len ≤ 2 ^ 8 ⌝ }
-        ensures { λ r. ⌜ r .len ≤ 2 ^ 8 ⌝ }
+        requires { ⌜ self .len ≤ 2 ^ 9 ⌝ }
+        ensures { λ r. ⌜ r .len ≤ 2 ^ 9 ⌝ }
     {
         let mut bytes = self.bytes;
         let mut len = self.len;
@@ -76,54 +74,61 @@ impl Line {
     }
 
     fn with_number(self, n: u64) -> Line
-        requires { ⌜ self .len ≤ 2 ^ 8 ⌝ }
-        ensures { λ r. ⌜ r .len ≤ 2 ^ 8 ⌝ }
+        requires { ⌜ self .len ≤ 2 ^ 9 ⌝ }
+        ensures { λ r. ⌜ r .len ≤ 2 ^ 9 ⌝ }
     {
         let mut digits = [0u8; 20];
         let k = io::decimal(n, &mut digits);
         self.with(&digits[..k])
     }
 
-    // With an answer and how often it came.
-    fn with_times(self, answer: u64, times: u64) -> Line
-        requires { ⌜ self .len ≤ 2 ^ 8 ⌝ }
-        ensures { λ r. ⌜ r .len ≤ 2 ^ 8 ⌝ }
+    // With an answer, the place where it is bad data at one, and how often that came.
+    fn with_times(self, sort: u64, times: u64) -> Line
+        requires { ⌜ self .len ≤ 2 ^ 9 ⌝ }
+        ensures { λ r. ⌜ r .len ≤ 2 ^ 9 ⌝ }
     {
-        self.with_number(answer).with(b" x").with_number(times)
+        let answer = BAD_DATA as u64;
+        if answer < sort {
+            let at = self.with_number(answer)
+                .with(b" at ")
+                .with_number(sort - answer);
+            return at.with(b" x").with_number(times);
+        }
+        self.with_number(sort).with(b" x").with_number(times)
     }
 
-    fn with_refusal(self, first: bool, answer: u64, times: u64) -> Line
-        requires { ⌜ self .len ≤ 2 ^ 8 ⌝ }
-        ensures { λ r. ⌜ r .len ≤ 2 ^ 8 ⌝ }
+    fn with_refusal(self, first: bool, sort: u64, times: u64) -> Line
+        requires { ⌜ self .len ≤ 2 ^ 9 ⌝ }
+        ensures { λ r. ⌜ r .len ≤ 2 ^ 9 ⌝ }
     {
         if first {
-            return self.with(b"; refused: ").with_times(answer, times);
+            return self.with(b"; refused: ").with_times(sort, times);
         }
-        self.with(b", ").with_times(answer, times)
+        self.with(b", ").with_times(sort, times)
     }
 
-    // With each refusal that came: the answers from 2 on, of which no packet that was read has 3.
-    fn with_refusals(self, counts: [u64; 8]) -> Line
-        requires { ⌜ self .len ≤ 2 ^ 8 ⌝ }
-        ensures { λ r. ⌜ r .len ≤ 2 ^ 8 ⌝ }
+    // With each refusal that came: the sorts from 2 on, of which no packet that was read has 3.
+    fn with_refusals(self, counts: [u64; SORTS]) -> Line
+        requires { ⌜ self .len ≤ 2 ^ 9 ⌝ }
+        ensures { λ r. ⌜ r .len ≤ 2 ^ 9 ⌝ }
     {
         let mut line = self;
         let mut first = true;
-        let mut answer = NO_FORM as usize;
-        while answer < 8 {
-            let times = counts[answer];
+        let mut sort = NO_FORM as usize;
+        while sort < SORTS {
+            let times = counts[sort];
             if 0 < times {
-                line = line.with_refusal(first, answer as u64, times);
+                line = line.with_refusal(first, sort as u64, times);
                 first = false;
             }
-            answer += 1;
+            sort += 1;
         }
         line
     }
 
     // Writes it to standard error.
     fn write(self)
-        requires { ⌜ self .len ≤ 2 ^ 8 ⌝ }
+        requires { ⌜ self .len ≤ 2 ^ 9 ⌝ }
     {
         let bytes = self.bytes;
         let len = self.len;
@@ -131,12 +136,14 @@ impl Line {
     }
 }
 
-fn is_refused(counts: [u64; 8]) -> bool {
-    (0 < counts[NO_FORM as usize])
-        | (0 < counts[RESERVED as usize])
-        | (0 < counts[WRONG_PROTOCOL as usize])
-        | (0 < counts[BAD_STATUS as usize])
-        | (0 < counts[BAD_DATA as usize])
+fn is_refused(counts: [u64; SORTS]) -> bool {
+    let mut any = false;
+    let mut sort = NO_FORM as usize;
+    while sort < SORTS {
+        any = any | (0 < counts[sort]);
+        sort += 1;
+    }
+    any
 }
 
 // Says what was read and written, what was refused and whether the end was cut.

@@ -17,7 +17,7 @@ use Rattle.ump.proofs.PacketLaws.{at-none, packet-four, packet-near}
 use Rattle.stream.specs.declared.Done.{Done}
 use Rattle.stream.specs.Answers.{cutPacket, noRoom, sent, takenIn}
 use Rattle.stream.specs.Call.{Call, answerOf, fit, leftOf, refused, sentOf, stopped, went}
-use Rattle.stream.specs.Report.{counting}
+use Rattle.stream.specs.Report.{counting, placeTold, placing}
 use Rattle.stream.proofs.RunLoop.{Inside}
 use Rattle.screen.specs.Screen.{screen, screened}
 use Rattle.channel.specs.declared.Record.{Record}
@@ -48,7 +48,7 @@ module _ (d : Done) (p text : List ℕ) (r : Record) (x : RecordAndReport) (four
   Lists c y text′ = (y ≡ turned d p text r may (listed p c)) × (text′ ≡ outputOf d text (listed p c))
 
   abbrev pub Told : ℕ → RecordAndReport
-  Told n = record { after = x .after; changes = x .changes; done = counting (x .done .answer) (x .done .read) n }
+  Told n = record { after = x .after; changes = x .changes; done = placing (x .done .answer) (x .done .place) (x .done .read) n }
 
   -- what is then told: no room for the line, or the place after it
   abbrev pub Lined : Call Record → ℕ → List ℕ → Type 0
@@ -58,7 +58,7 @@ module _ (d : Done) (p text : List ℕ) (r : Record) (x : RecordAndReport) (four
 
   -- a call that goes on: its words stand in the four
   went-four : (a : ℕ) (ws : List ℕ) (v : Record) → length ws ≤ 4 → Calls (went a ws v)
-      → (x ≡ record { after = v; changes = changedBy may (went a ws v); done = counting a (d .read + length p) (length ws) })
+      → (x ≡ record { after = v; changes = changedBy may (went a ws v); done = placing a (placeTold a p) (d .read + length p) (length ws) })
       × (four ≡ ws ++ drop (length ws) four₀)
   went-four a ws v f e = rw (le-leb (length ws) 4 f, zero-add (length ws)) at e
 
@@ -85,7 +85,7 @@ module _ (d : Done) (p text : List ℕ) (r : Record) (x : RecordAndReport) (four
 
   -- a call that goes on has its line, where there is room for it
   pub line-some : (c : Call Record) (end : ℕ) (text′ : List ℕ) → length (sentOf c) ≤ 4 → Calls c → (x .done .read ≡ d .read → ⊥)
-      → let row = lineOf (x .done .answer) (x .done .read - d .read) (take (x .done .written) four) in
+      → let row = lineOf (x .done .answer) (x .done .read - d .read) (x .done .place) (take (x .done .written) four) in
       (end ≡ placeAfter text (d .written) row) × (text′ ≡ withRow text (d .written) row)
       → Lined c end text′
   line-some (stopped a) end text′ f e h l =
@@ -96,7 +96,7 @@ module _ (d : Done) (p text : List ℕ) (r : Record) (x : RecordAndReport) (four
       rw (w .0) (go (leb (length line) room) refl (rw (w .0, w .1, take-at ws (drop (length ws) four₀) (length ws) refl, n) at l))
     where
       line : List ℕ
-      line = lineOf a (length p) ws
+      line = lineOf a (length p) (placeTold a p) ws
 
       to : ℕ
       to = d .written
@@ -106,10 +106,10 @@ module _ (d : Done) (p text : List ℕ) (r : Record) (x : RecordAndReport) (four
 
       go : (b : Bool) → leb (length line) room ≡ b → (end ≡ cond b (to + length line) to) × (text′ ≡ withRow text to line)
           → (end ≡ to → Lists (went a ws v) (record { after = r; changes = false; done = counting noRoom (d .read) to }) text′)
-          × ((end ≡ to → ⊥) → Lists (went a ws v) (record { after = v; changes = changedBy may (went a ws v); done = counting a (d .read + length p) end }) text′)
+          × ((end ≡ to → ⊥) → Lists (went a ws v) (record { after = v; changes = changedBy may (went a ws v); done = placing a (placeTold a p) (d .read + length p) end }) text′)
       go true b m =
           let h = leb-true (length line) room b in
-          let q = line-length a (length p) ws in
+          let q = line-length a (length p) (placeTold a p) ws in
           let k = rw b at (m .1) in (
             λ z. absurd (omega (arith, m .0, z, q)),
             λ z. rw b (rw (m .0), k ∙ sets-eq line text to (omega (arith, h, q))),
@@ -171,5 +171,5 @@ list-still room r p = go (packetUp r p) (unchanged-up r p) (refused-up r p)
     go (stopped a) f g = λ _. refl
     go (went a ws u) f g =
         choose (λ (c : Call (ℕ × Record)). changedBy (changesAt p) c ≡ false → leftOf (room, r) c .1 ≡ r)
-        (leb (length (lineOf a (length p) ws)) room)
+        (leb (length (lineOf a (length p) (placeTold a p) ws)) room)
         (λ _ h. by-bool (leb a takenIn) (λ e. f (rw e at h)) g) (λ _ _. refl)

@@ -4,6 +4,7 @@ use mathlib.Core.List.{List}
 use lib.ListN.{length}
 use Rattle.ump.specs.Packet.{packet}
 use Rattle.stream.specs.Call.{Call, stopped, went}
+use Rattle.stream.specs.Report.{placeTold}
 use Rattle.stream.specs.Run.{Ran}
 use Rattle.channel.specs.declared.Record.{Record}
 use Rattle.voice.specs.Packet.{packetUp}
@@ -12,7 +13,7 @@ use Rattle.table.specs.Table.{runBy, tableUp}
 
 -- a call at the packet p; one that stops has no line
 abbrev pub listed : {T : Type 0} → List ℕ → Call T → Call T
-listed p (went a ws u) = went a (lineOf a (length p) ws) u
+listed p (went a ws u) = went a (lineOf a (length p) (placeTold a p) ws) u
 listed p (stopped a) = stopped a
 
 -- a packet with its own record, and the packet that stands first in some words with the table

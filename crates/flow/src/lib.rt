@@ -3,8 +3,8 @@
 // records.
 //
 // No function has a `requires`. Each says by the run of the definitions what it reports, what table
-// it leaves and what the output holds after, on every input; and how often each answer came is a
-// count over the words that were read.
+// it leaves and what the output holds after, on every input; and how often each sort of packet came is
+// a count over the words that were read.
 mod lines;
 mod tally;
 
@@ -27,18 +27,22 @@ pub struct Table {
     pub records: [Record; RECORDS],
 }
 
-// A run up: the table after it, its report, and how often each answer came, at the answer's number.
-// 0 stands for whatever was not refused.
+// How many sorts of packets are counted: an answer is its own sort, and bad data at a place is the place
+// behind its answer.
+pub const SORTS: usize = 15;
+
+// A run up: the table after it, its report, and how often each sort of packet came, at the sort's
+// number. 0 stands for whatever was not refused.
 pub struct TableReportAndCounts {
     pub table: Table,
     pub done: Done,
-    pub counts: [u64; 8],
+    pub counts: [u64; SORTS],
 }
 
-// A run down: its report, and how often each answer came.
+// A run down: its report, and how often each sort came.
 pub struct ReportAndCounts {
     pub done: Done,
-    pub counts: [u64; 8],
+    pub counts: [u64; SORTS],
 }
 
 // A run into lines: the table after it, and the report, which counts the bytes of the lines as

@@ -6,13 +6,14 @@ use stream::Done;
 use stream::NO_ROOM;
 use stream::SENT;
 use stream::report;
+use stream::report_place;
 use voice::RecordAndReport;
 ghost use mathlib.Core.Path.{_≡_};
 ghost use Prim.Native.Nat.{_<_};
 ghost use lib.ListN.{length};
 ghost use Rattle.ground.specs.Store.{atStart};
 ghost use Rattle.ump.specs.Word.{placeOf};
-ghost use Rattle.stream.specs.Report.{counting, reported};
+ghost use Rattle.stream.specs.Report.{placing, reported};
 ghost use Rattle.channel.specs.Record.{wholeTable};
 ghost use Rattle.voice.specs.Packet.{changesAt};
 ghost use Rattle.voice.specs.Turn.{next, outputOf, turned};
@@ -32,7 +33,7 @@ fn told(turned: RecordAndReport, written: usize) -> RecordAndReport
     ensures { λ r. ⌜ r ≡ record {
       after = turned .after;
       changes = turned .changes;
-      done = counting (turned .done .answer) (turned .done .read) written;
+      done = placing (turned .done .answer) (turned .done .place) (turned .done .read) written;
     } ⌝ }
 {
     let after = turned.after;
@@ -40,7 +41,7 @@ fn told(turned: RecordAndReport, written: usize) -> RecordAndReport
     RecordAndReport {
         after,
         changes: turned.changes,
-        done: report(done.answer, done.read, written),
+        done: report_place(done.answer, done.place, done.read, written),
     }
 }
 
@@ -60,7 +61,14 @@ fn list_one(words: &[u32], past: Done, record: Record, text: &mut [u8]) -> Recor
         return told(turned, to);
     }
     let n = done.written;
-    let end = text::line(done.answer, done.read - read, &four[..n], text, to);
+    let end = text::line(
+        done.answer,
+        done.read - read,
+        done.place,
+        &four[..n],
+        text,
+        to,
+    );
     if end == to {
         let done = report(NO_ROOM, read, to);
         return RecordAndReport {
@@ -94,6 +102,7 @@ pub fn list_some(table: Table, words: &[u32], text: &mut [u8]) -> LinesReport
         }
         if done.read == read {
             let table = Table { records };
+            let done = report(done.answer, read, done.written);
             return LinesReport { table, done };
         }
         read = done.read;

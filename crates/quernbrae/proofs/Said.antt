@@ -9,7 +9,8 @@ use Rattle.ground.specs.Store.{atStart}
 use Rattle.ground.proofs.StoreLaws.{start-written}
 use Rattle.ump.specs.Packet.{packet}
 use Rattle.stream.specs.Call.{Call, fit, readOf, sentOf, within}
-use Rattle.stream.specs.Report.{nothingYet, reported}
+use Rattle.stream.specs.declared.Done.{Done}
+use Rattle.stream.specs.Report.{nothingYet, reported, reportedCall}
 use Rattle.stream.specs.Run.{Ran}
 use Rattle.channel.specs.declared.Record.{Record}
 use Rattle.voice.specs.Packet.{callDown, oneDown, packetDown}
@@ -17,20 +18,21 @@ use Rattle.voice.specs.Turn.{next, outputOf, reportOf}
 use Rattle.table.specs.Table.{oneUp, runUp, tableAfter}
 use Rattle.table.specs.Job.{asked, oneCall, tableStep, wholeRun}
 
--- of a call or a run that was asked for, and the one that is promised
-abbrev pub Told : Ran (ℕ × List Record) → Ran (ℕ × List Record) → List ℕ → Type 0
-Told a b out = (reported a ≡ reported b) × (tableAfter a ≡ tableAfter b) × (atStart (a .sends) out ≡ atStart (b .sends) out)
+-- of a call or a run that was asked for, and the one that is promised, each with its report
+abbrev pub Told : (Ran (ℕ × List Record) → Done) → Ran (ℕ × List Record) → Ran (ℕ × List Record) → List ℕ → Type 0
+Told report a b out = (report a ≡ report b) × (tableAfter a ≡ tableAfter b) × (atStart (a .sends) out ≡ atStart (b .sends) out)
 
-pub one-said : (ws : List ℕ) (tb : List Record) (out : List ℕ) → Told (asked oneCall (length out) tb ws) (oneUp (length out) tb ws) out
+pub one-said : (ws : List ℕ) (tb : List Record) (out : List ℕ)
+    → Told (reportedCall (packet ws)) (asked oneCall (length out) tb ws) (oneUp (length out) tb ws) out
 unfolding asked tableStep oneUp
 one-said ws tb out = (refl, refl, refl)
 
-pub run-said : (ws : List ℕ) (tb : List Record) (out : List ℕ) → Told (asked wholeRun (length out) tb ws) (runUp (length out) tb ws) out
+pub run-said : (ws : List ℕ) (tb : List Record) (out : List ℕ) → Told reported (asked wholeRun (length out) tb ws) (runUp (length out) tb ws) out
 unfolding asked tableStep runUp
 run-said ws tb out = (refl, refl, refl)
 
 pub down-said : (ws out : List ℕ) → let p = next ws nothingYet in
-    (reportOf nothingYet p out (packetDown p) ≡ reported (oneDown (length out) ws))
+    (reportOf nothingYet p out (packetDown p) ≡ reportedCall (packet ws) (oneDown (length out) ws))
     × (outputOf nothingYet out (packetDown p) ≡ atStart (oneDown (length out) ws .sends) out)
 unfolding oneDown within callDown
 down-said ws out =

@@ -9,7 +9,8 @@ use table::treat;
 ghost use mathlib.Core.Path.{_≡_};
 ghost use lib.ListN.{length};
 ghost use Rattle.ground.specs.Store.{atStart};
-ghost use Rattle.stream.specs.Report.{reported};
+ghost use Rattle.ump.specs.Packet.{packet};
+ghost use Rattle.stream.specs.Report.{reported, reportedCall};
 ghost use Rattle.channel.specs.Record.{empty};
 ghost use Rattle.voice.specs.Packet.{oneDown, runDown};
 ghost use Rattle.table.specs.Table.{oneUp, runUp, tableAfter};
@@ -25,8 +26,8 @@ pub extern "C" fn quernbrae_empty() -> Record
 // One call up: the packet at the start of the words.
 #[no_mangle]
 pub extern "C" fn quernbrae_up(words: &[u32], table: &mut [Record], out: &mut [u32]) -> Done
-    ensures report { λ r. ⌜ r
-        ≡ reported (oneUp (length (now (out .entry))) (now (table .entry)) (now (words .entry))) ⌝ }
+    ensures report { λ r. ⌜ r ≡ reportedCall (packet (now (words .entry)))
+        (oneUp (length (now (out .entry))) (now (table .entry)) (now (words .entry))) ⌝ }
     ensures table { λ _. ⌜ now (table .exit)
         ≡ tableAfter (oneUp (length (now (out .entry))) (now (table .entry)) (now (words .entry))) ⌝ }
     ensures output { λ _. ⌜ now (out .exit) ≡ atStart
@@ -51,7 +52,8 @@ pub extern "C" fn quernbrae_run_up(words: &[u32], table: &mut [Record], out: &mu
 // One call down: the packet at the start of the words.
 #[no_mangle]
 pub extern "C" fn quernbrae_down(words: &[u32], out: &mut [u32]) -> Done
-    ensures report { λ r. ⌜ r ≡ reported (oneDown (length (now (out .entry))) (now (words .entry))) ⌝ }
+    ensures report { λ r. ⌜ r ≡ reportedCall (packet (now (words .entry)))
+        (oneDown (length (now (out .entry))) (now (words .entry))) ⌝ }
     ensures output { λ _. ⌜ now (out .exit)
         ≡ atStart (oneDown (length (now (out .entry))) (now (words .entry)) .sends) (now (out .entry)) ⌝ }
 {

@@ -1,44 +1,24 @@
--- Laws of the screening: a count above 6 is bad data, whatever the payload; a MIDI 1.0 voice message is screened by its
--- one word; only a cut packet is refused by an answer that stops a run; what passes. Assumes nothing.
+-- Laws of the screening: a MIDI 1.0 voice message is screened by its one word; only a cut packet is refused by an answer
+-- that stops a run; the place goes with the answer; what passes. Assumes nothing.
 use mathlib.Core.Path.{_≡_, refl}
 use mathlib.Core.Bool.{Bool, true, false, cond, not}
 use mathlib.Core.List.{List, [], _∷_}
-use Prim.Native.Nat.{ℕ, zero, suc, _<_}
+use Prim.Native.Nat.{ℕ}
 use native.Mathlib.Omega.{arith}
 use lib.Dec.{eqb, leb}
 use lib.ListN.{length}
-use borrow.Author.Tests.{eqb-false, eqb-true, lt-leb}
+use borrow.Author.Tests.{eqb-false, eqb-true, ne-eqb}
 use Rattle.ground.proofs.Cases.{choose, not-both}
-use Rattle.ump.specs.Word.{count, messageType, voice2}
+use Rattle.ump.specs.Word.{messageType, voice2}
 use Rattle.ump.specs.Packet.{first, second}
 use Rattle.ump.proofs.PacketLaws.{at-none}
 use Rattle.stream.specs.Answers.{badData, badStatus, cutPacket, reservedType, stopsRun, takenIn, wrongProtocol}
 use Rattle.stream.specs.Call.{Call, refused}
+use Rattle.stream.specs.Report.{placeTold}
 use Rattle.screen.specs.declared.Screened.{Screened}
-use Rattle.screen.specs.Check.{Field, checkedFields, exclusiveFields, goodFields, goodStatus, voice1Fields}
-use Rattle.screen.specs.Check.{voice1Status}
+use Rattle.fields.specs.Check.{Field, badPlace, badPlaceOf, checkedFields, goodFields, goodStatus, voice1Fields}
+use Rattle.fields.specs.Check.{voice1Status}
 use Rattle.screen.specs.Screen.{answering, checkVoice1, checking, goesOn, reserved, screen, screened}
-
-first-above : (f : Field) (fs : List Field) → leb (f .value) (f .most) ≡ false → goodFields (f ∷ fs) ≡ false
-unfolding goodFields
-first-above f [] h = h
-first-above f (g ∷ fs) h = rw h
-
-pub count-above : (w v : ℕ) → 6 < count w → goodFields (exclusiveFields w v) ≡ false
-unfolding exclusiveFields
-count-above w v h = first-above _ _ (lt-leb (count w) 6 h)
-
--- none of 0 to 6, so above 6
-pub above-six : (n : ℕ) → (n ≡ 0 → ⊥) → (n ≡ 1 → ⊥) → (n ≡ 2 → ⊥) → (n ≡ 3 → ⊥) → (n ≡ 4 → ⊥) → (n ≡ 5 → ⊥)
-    → (n ≡ 6 → ⊥) → 6 < n
-above-six zero a b c d e f g = absurd (a refl)
-above-six (suc zero) a b c d e f g = absurd (b refl)
-above-six (suc (suc zero)) a b c d e f g = absurd (c refl)
-above-six (suc (suc (suc zero))) a b c d e f g = absurd (d refl)
-above-six (suc (suc (suc (suc zero)))) a b c d e f g = absurd (e refl)
-above-six (suc (suc (suc (suc (suc zero))))) a b c d e f g = absurd (f refl)
-above-six (suc (suc (suc (suc (suc (suc zero)))))) a b c d e f g = absurd (g refl)
-above-six (suc (suc (suc (suc (suc (suc (suc n))))))) a b c d e f g = omega arith
 
 -- a MIDI 1.0 voice message, going up
 pub screen-voice1 : (w : ℕ) → messageType w ≡ 2 → screen voice2 (w ∷ []) ≡ checkVoice1 w
@@ -46,13 +26,16 @@ unfolding screen goodStatus checkedFields checkVoice1
 screen-voice1 w h = rw h
 
 -- what holds of every answer of the check holds of it, and so of the screening
-checks : (P : Screened → Type 0) (b : Bool) (fs : List Field) → P (answering badStatus) → P (answering badData)
+checks : (P : Screened → Type 0) (b : Bool) (fs : List Field) → P (answering badStatus)
+    → ((badPlace fs ≡ 0 → ⊥) → P (record { answer = badData; place = badPlace fs }))
     → P (answering goesOn) → P (checking b fs)
 checks P b fs status fields good =
-    choose P (not b) (λ _. status) (λ _. choose P (not (goodFields fs)) (λ _. fields) (λ _. good))
+    choose P (not b) (λ _. status)
+    (λ _. choose P (eqb (badPlace fs) 0) (λ _. good) (λ e. fields (eqb-false (badPlace fs) 0 e)))
 
 screens : (P : Screened → Type 0) (wrong : ℕ) (p : List ℕ) → (p ≡ [] → P (answering cutPacket))
-    → P (answering reservedType) → P (answering wrongProtocol) → P (answering badStatus) → P (answering badData)
+    → P (answering reservedType) → P (answering wrongProtocol) → P (answering badStatus)
+    → ((badPlaceOf p ≡ 0 → ⊥) → P (record { answer = badData; place = badPlaceOf p }))
     → P (answering goesOn) → P (screen wrong p)
 unfolding screen
 screens P wrong p none reserved-type protocol status fields good =
@@ -61,16 +44,25 @@ screens P wrong p none reserved-type protocol status fields good =
     (λ _. choose P (eqb (messageType (first p)) wrong) (λ _. protocol)
     (λ _. checks P (goodStatus (first p)) (checkedFields (first p) (second p)) status fields good)))
 
+-- the place goes with the answer
+pub screen-place : (wrong : ℕ) (p : List ℕ) → screen wrong p .place ≡ placeTold (screen wrong p .answer) p
+screen-place wrong p =
+    screens (λ (s : Screened). s .place ≡ placeTold (s .answer) p) wrong p
+    (λ _. refl) refl refl refl (λ _. refl) refl
+
+pub check-place : (w : ℕ) → messageType w ≡ 2 → checkVoice1 w .place ≡ placeTold (checkVoice1 w .answer) (w ∷ [])
+check-place w h = rw (screen-voice1 w h) at (screen-place voice2 (w ∷ []))
+
 -- only where no packet is whole does the screening stop a run
 pub cut-only : (wrong : ℕ) (p : List ℕ) → stopsRun (screen wrong p .answer) ≡ true → p ≡ []
 cut-only wrong p =
     screens (λ (s : Screened). stopsRun (s .answer) ≡ true → p ≡ []) wrong p
-    (λ e _. e) not-both not-both not-both not-both not-both
+    (λ e _. e) not-both not-both not-both (λ _. not-both) not-both
 
 pub check-goes-on : (w : ℕ) → stopsRun (checkVoice1 w .answer) ≡ false
 unfolding checkVoice1
 check-goes-on w =
-    checks (λ (s : Screened). stopsRun (s .answer) ≡ false) (voice1Status w) (voice1Fields w) refl refl refl
+    checks (λ (s : Screened). stopsRun (s .answer) ≡ false) (voice1Status w) (voice1Fields w) refl (λ _. refl) refl
 
 -- a refusal is neither `sent` nor `takenIn`
 abbrev Above : Screened → Type 0
@@ -79,11 +71,11 @@ Above s = (s .answer ≡ goesOn → ⊥) → leb (s .answer) takenIn ≡ false
 pub refused-above : (wrong : ℕ) (p : List ℕ) → (screen wrong p .answer ≡ goesOn → ⊥)
     → leb (screen wrong p .answer) takenIn ≡ false
 refused-above wrong p =
-    screens Above wrong p (λ _ _. refl) (λ _. refl) (λ _. refl) (λ _. refl) (λ _. refl) (λ n. absurd (n refl))
+    screens Above wrong p (λ _ _. refl) (λ _. refl) (λ _. refl) (λ _. refl) (λ _ _. refl) (λ n. absurd (n refl))
 
 pub check-above : (w : ℕ) → (checkVoice1 w .answer ≡ goesOn → ⊥) → leb (checkVoice1 w .answer) takenIn ≡ false
 unfolding checkVoice1
-check-above w = checks Above (voice1Status w) (voice1Fields w) (λ _. refl) (λ _. refl) (λ n. absurd (n refl))
+check-above w = checks Above (voice1Status w) (voice1Fields w) (λ _. refl) (λ _ _. refl) (λ n. absurd (n refl))
 
 -- a packet that goes on is no empty part, and nothing is wrong with it
 pub record Passed (wrong : ℕ) (p : List ℕ) : Type 0 where
@@ -103,7 +95,8 @@ passed wrong p =
         → eqb (messageType (first p)) wrong ≡ c
         → goodStatus (first p) ≡ d → goodFields (checkedFields (first p) (second p)) ≡ e
         → cond a (answering cutPacket) (cond b (answering reservedType) (cond c (answering wrongProtocol)
-        (cond (not d) (answering badStatus) (cond (not e) (answering badData) (answering goesOn))))) .answer ≡ goesOn
+        (cond (not d) (answering badStatus) (cond e (answering goesOn) (record { answer = badData; place = badPlaceOf p })))))
+        .answer ≡ goesOn
         → Passed wrong p
     go true b c d e x y z v u h = absurd (omega (arith, h))
     go false true c d e x y z v u h = absurd (omega (arith, h))

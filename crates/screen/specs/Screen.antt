@@ -9,9 +9,9 @@ use Rattle.ump.specs.Packet.{first, second}
 use Rattle.stream.specs.Answers.{badData, badStatus, cutPacket, reservedType, wrongProtocol}
 use Rattle.stream.specs.Call.{Call, refused}
 use Rattle.screen.specs.declared.Screened.{Screened}
-use Rattle.screen.specs.Check.{Field, checkedFields, goodFields, goodStatus, voice1Fields, voice1Status}
+use Rattle.fields.specs.Check.{Field, badPlace, checkedFields, goodStatus, voice1Fields, voice1Status}
 
--- a screening by its answer; today no answer has a place
+-- a screening by its answer, without a place
 abbrev pub answering : ℕ → Screened
 answering a = record { answer = a; place = 0 }
 
@@ -19,14 +19,17 @@ answering a = record { answer = a; place = 0 }
 abbrev pub goesOn : ℕ
 goesOn = 0
 
+-- by the place of the first bad field; 0 is no place
+abbrev pub placed : ℕ → Screened
+placed k = cond (eqb k 0) (answering goesOn) (record { answer = badData; place = k })
+
 -- the message types that are reserved (RULES 2.1; 01 "Packet sizes, in 32-bit words")
 abbrev pub reserved : ℕ → Bool
 reserved t = (leb 6 t && leb t 12) || eqb t 14
 
 -- the check: the status first, and then the fields
 abbrev pub checking : Bool → List Field → Screened
-checking statusGood fs =
-    cond (not statusGood) (answering badStatus) (cond (not (goodFields fs)) (answering badData) (answering goesOn))
+checking statusGood fs = cond (not statusGood) (answering badStatus) (placed (badPlace fs))
 
 -- Of a packet, or of the empty part where none is whole; `wrong` is the message type of the other protocol's voice
 -- messages.

@@ -4,7 +4,7 @@
 // The answers have their numbers here and nowhere else. What a run is stands in specs/Run.antt, over
 // any step and any state, with its laws beside it in proofs/.
 ghost use mathlib.Core.Path.{_≡_};
-ghost use Rattle.stream.specs.Report.{counting};
+ghost use Rattle.stream.specs.Report.{counting, placing};
 
 // Sent; of a run: finished.
 pub const SENT: u32 = 0;
@@ -37,10 +37,12 @@ pub const NO_ROOM: u32 = 9;
 // Going up: the table is not a whole one.
 pub const NO_TABLE: u32 = 10;
 
-// What a call or a run reports.
+// What a call or a run reports. The place is that of the first bad field, and 0 with every answer but
+// `BAD_DATA`.
 #[repr(C)]
 pub struct Done {
     pub answer: u32,
+    pub place: u32,
     pub read: usize,
     pub written: usize,
 }
@@ -49,8 +51,16 @@ pub struct Done {
 pub fn report(answer: u32, read: usize, written: usize) -> Done
     ensures { λ r. ⌜ r ≡ counting answer read written ⌝ }
 {
+    report_place(answer, 0, read, written)
+}
+
+// The same with a place.
+pub fn report_place(answer: u32, place: u32, read: usize, written: usize) -> Done
+    ensures { λ r. ⌜ r ≡ placing answer place read written ⌝ }
+{
     Done {
         answer,
+        place,
         read,
         written,
     }

@@ -36,10 +36,9 @@ use Rattle.table.specs.declared.Job.{Job}
 use Rattle.ground.specs.Store.{atStart}
 use Rattle.ground.proofs.More.{as-one, as-pair}
 use Rattle.stream.specs.Call.{Call}
-use Rattle.stream.specs.Report.{reported}
 use Rattle.stream.specs.Run.{Ran}
 use Rattle.channel.specs.Record.{wholeTable}
-use Rattle.table.specs.Job.{asked, recordStep, tableStep}
+use Rattle.table.specs.Job.{asked, askedReport, recordStep, tableStep}
 use Rattle.table.specs.Next.{outputAfterCall, reportAfterCall, stateAfter, turnAt}
 use Rattle.table.proofs.Turns.{begun, moved}
 use Rattle.table.proofs.TableLaws.{placeAt}
@@ -211,10 +210,10 @@ module _ {M : Type 1} (𝓤 : URA M) (H : Heap 𝓤) (A : Atoms 𝓤) (W : Given
     abbrev r′ : Ran (ℕ × List Record)
     r′ = asked j (length (y .now)) (x .now) (w .now)
 
-    pub treat-post : (v : Val) → ent 𝓤 (Treat .post to-treat v) (H .⇛ (guard 𝓤 (((v ≡ valD (reported r′)) × Is D (reported r′) (valsD (reported r′))) × ((length (r′ .left .1) ≡ length (x .now)) × (length (atStart (r′ .sends) (y .now)) ≡ length (y .now))))
+    pub treat-post : (v : Val) → ent 𝓤 (Treat .post to-treat v) (H .⇛ (guard 𝓤 (((v ≡ valD (askedReport j (w .now) r′)) × Is D (askedReport j (w .now) r′) (valsD (askedReport j (w .now) r′))) × ((length (r′ .left .1) ≡ length (x .now)) × (length (atStart (r′ .sends) (y .now)) ≡ length (y .now))))
         (sep 𝓤 (alive 𝓤 H A treat.signature κs qs) (sem 𝓤 H A (fsep (finally R (x .name) (r′ .left .1)) (finally u32 (y .name) (atStart (r′ .sends) (y .now))))))))
-    treat-post = result-with 𝓤 H A W treat.ended (treat.clauses 𝓤 H A mem run) (to-treat .0) tt valsD tellsD (reported r′)
-        (λ r ws. (r ≡ reported r′) × (ws .1 .1 .0 ≡ r′ .left .1) × (ws .1 .1 .1 .0 ≡ atStart (r′ .sends) (y .now))) ((length (r′ .left .1) ≡ length (x .now)) × (length (atStart (r′ .sends) (y .now)) ≡ length (y .now)))
+    treat-post = result-with 𝓤 H A W treat.ended (treat.clauses 𝓤 H A mem run) (to-treat .0) tt valsD tellsD (askedReport j (w .now) r′)
+        (λ r ws. (r ≡ askedReport j (w .now) r′) × (ws .1 .1 .0 ≡ r′ .left .1) × (ws .1 .1 .1 .0 ≡ atStart (r′ .sends) (y .now))) ((length (r′ .left .1) ≡ length (x .now)) × (length (atStart (r′ .sends) (y .now)) ≡ length (y .now)))
         (fsep (finally R (x .name) (r′ .left .1)) (finally u32 (y .name) (atStart (r′ .sends) (y .now))))
         (λ r ws. as-one 𝓤 _ _ _) (λ r ws e. e .0)
         (λ r ws e. qed W (‵ (lasts treat.ended κs (w, (j, (x, (y, tt)))) ws) ∷ []) ∵ fsplit ! $ drop ! $ fsplit ! $ drop ! $ by ! (left-two 𝓤 H A W R u32 x y _ (r′ .left .1) _ (atStart (r′ .sends) (y .now)) (e .1) (e .2)))

@@ -1,6 +1,6 @@
 -- What the loop of `treat` keeps: while there is more, what was done and then the run from here is the whole run; else all
 -- is done. Assumes nothing.
-use mathlib.Core.Path.{_≡_, refl, sym, _∙_, subst}
+use mathlib.Core.Path.{_≡_, refl, sym, ap, _∙_, subst}
 use Prim.Native.Nat.{ℕ, suc, _+_, _-_, _<_, _≤_}
 use native.Mathlib.Omega.{arith}
 use native.Mathlib.Nat.{zero-add, sub-zero}
@@ -8,27 +8,27 @@ use mathlib.Core.Bool.{Bool, true, false, cond, not, _&&_, _||_}
 use mathlib.Core.List.{List}
 use mathlib.Core.WellFounded.{WellFounded, InvImage·wf}
 use lib.WfN.{Nat·lt-wfRel}
-use lib.ListN.{length}
+use lib.ListN.{drop, length}
 use lib.Dec.{eqb, ltb}
 use borrow.Author.Tests.{eqb-true, eqb-false, eq-eqb, ltb-true, ltb-false}
 use denote.Laws.{Is}
 use Rattle.ground.specs.Store.{written}
 use Rattle.ground.proofs.Cases.{not-both}
 use Rattle.ground.proofs.StoreLaws.{start-written}
-use Rattle.ump.specs.Packet.{cut}
+use Rattle.ump.specs.Packet.{cut, packet}
 use Rattle.stream.specs.Answers.{noTable, sent}
 use Rattle.stream.specs.Call.{Call, answerOf, leftOf, readOf, sentOf, within}
 use Rattle.stream.specs.declared.Done.{Done}
-use Rattle.stream.specs.Report.{counting}
+use Rattle.stream.specs.Report.{counting, placeTold, placing, reported, reportedCall}
 use Rattle.stream.specs.Run.{Ran, called, run}
-use Rattle.stream.proofs.RunLoop.{DidRun, Runs, Then, finish, start, turn}
+use Rattle.stream.proofs.RunLoop.{DidRun, Runs, Then, finish, reports, start, turn}
 use Rattle.channel.specs.declared.Record.{Record}
 use Rattle.channel.specs.Record.{wholeTable}
 use Rattle.voice.specs.Turn.{next}
 use Rattle.table.proofs.StepLaws.{step-inside, step-near, step-refuses}
 use Rattle.table.specs.declared.Job.{Job}
 use Rattle.table.specs.declared.Progress.{Progress}
-use Rattle.table.specs.Job.{asked, askedBy, tableStep}
+use Rattle.table.specs.Job.{asked, askedBy, askedReport, tableStep}
 use Rattle.table.specs.Next.{callAt, outputAfterCall, reportAfterCall, stateAfter}
 use Rattle.table.proofs.Values.{P, valsP}
 
@@ -41,7 +41,10 @@ begun once n l =
 abbrev pub moved : Bool → ℕ → Done → Done → Progress
 moved once l d e =
     let last = once || eqb (e .read) (d .read) in
-    record { done = counting (cond last (e .answer) sent) (e .read) (e .written); more = not last && ltb (e .read) l }
+    record {
+      done = placing (cond last (e .answer) sent) (cond once (e .place) 0) (e .read) (e .written);
+      more = not last && ltb (e .read) l;
+    }
 
 -- one call alone
 called-did : {T : Type 0} (p : List ℕ) (room : ℕ) (t : T) (out : List ℕ) (c : Call (ℕ × T)) (i m : ℕ) → i ≡ 0 → m ≡ 0
@@ -56,7 +59,9 @@ asked-run step room t ws l = rw (eq-eqb (length t) wholeTable l)
 
 module _ (j : Job) (ws : List ℕ) (tb₀ : List Record) (out₀ : List ℕ) where
   abbrev pub Ended : Bool → Progress → List Record → List ℕ → Type 0
-  Ended once p tb out = DidRun (askedBy (tableStep j) once (length out₀) tb₀ ws) out₀ (p .done .answer) (p .done .read) (p .done .written) tb out
+  Ended once p tb out =
+      DidRun (askedBy (tableStep j) once (length out₀) tb₀ ws) out₀ (p .done .answer) (p .done .read) (p .done .written) tb out
+      × (p .done .place ≡ cond once (placeTold (p .done .answer) (packet ws)) 0)
 
   -- one call stands at the start; a run, where a packet starts
   abbrev Place : Bool → Progress → List Record → List ℕ → Type 0
@@ -100,8 +105,11 @@ module _ (j : Job) (ws : List ℕ) (tb₀ : List Record) (out₀ : List ℕ) whe
     turned true l s =
         let e : called (next ws (p .done)) (length out - n, tb) c ≡ askedBy (tableStep j) true (length out₀) tb₀ ws = rw (s .1 .0, s .1 .1, s .1 .2, s .1 .3, sub-zero (length out₀)) in
         let d = called-did (next ws (p .done)) (length out - n) tb out c i n (s .1 .0) (s .1 .1) in (
-          subst (λ (r : Ran (ℕ × List Record)). DidRun r out₀ (answerOf c) (i + k) (n + m) tb′ out′) e
-              (subst (λ (o : List ℕ). DidRun (called (next ws (p .done)) (length out - n, tb) c) o (answerOf c) (i + k) (n + m) tb′ out′) (s .1 .3) d),
+          (
+            subst (λ (r : Ran (ℕ × List Record)). DidRun r out₀ (answerOf c) (i + k) (n + m) tb′ out′) e
+                (subst (λ (o : List ℕ). DidRun (called (next ws (p .done)) (length out - n, tb) c) o (answerOf c) (i + k) (n + m) tb′ out′) (s .1 .3) d),
+            ap (λ (x : ℕ). placeTold (answerOf c) (packet (drop x ws))) (s .1 .0),
+          ),
           λ z. not-both z,
         )
     turned false l s = go (eqb (i + k) i) refl (ltb (i + k) (length ws)) refl
@@ -116,19 +124,19 @@ module _ (j : Job) (ws : List ℕ) (tb₀ : List Record) (out₀ : List ℕ) whe
             let y = x .0 in
             let e₁ : i + k ≡ i = omega (arith, z) in
             let e₂ : n + m ≡ n = omega (arith, x .1) in
-            (rw (asked-run (tableStep j) (length out₀) tb₀ ws l₀) (record { answers = y .answers; reads = e₁ ∙ y .reads; writes = e₂ ∙ y .writes; leaves = y .leaves; holds = y .holds }), λ q. not-both q)
+            ((rw (asked-run (tableStep j) (length out₀) tb₀ ws l₀) (record { answers = y .answers; reads = e₁ ∙ y .reads; writes = e₂ ∙ y .writes; leaves = y .leaves; holds = y .holds }), refl), λ q. not-both q)
         go false e true f =
             let r = t .0 (λ q. eqb-false (i + k) i e (omega (arith, q))) in
             let h = ltb-true (i + k) (length ws) f in
             ((l ∙ s .0, (r .0, h)), λ q. (omega (arith, r .1), omega (arith, h)))
         go false e false f =
             let r = t .0 (λ q. eqb-false (i + k) i e (omega (arith, q))) in
-            (rw (asked-run (tableStep j) (length out₀) tb₀ ws l₀) (finish (tableStep j) (step-near j) (step-inside j) tb₀ ws out₀ tb′ out′ (i + k) (n + m) (r .0) (ltb-false (i + k) (length ws) f)), λ q. not-both q)
+            ((rw (asked-run (tableStep j) (length out₀) tb₀ ws l₀) (finish (tableStep j) (step-near j) (step-inside j) tb₀ ws out₀ tb′ out′ (i + k) (n + m) (r .0) (ltb-false (i + k) (length ws) f)), refl), λ q. not-both q)
 
   -- before the first packet
   refused : (once : Bool) → eqb (length tb₀) wholeTable ≡ false → Ended once (record { done = counting noTable 0 0; more = false }) tb₀ out₀
-  refused true e = rw (step-refuses j tb₀ (length out₀) ws e) (record { answers = refl; reads = refl; writes = refl; leaves = refl; holds = refl })
-  refused false e = rw e (record { answers = refl; reads = refl; writes = refl; leaves = refl; holds = refl })
+  refused true e = (rw (step-refuses j tb₀ (length out₀) ws e) (record { answers = refl; reads = refl; writes = refl; leaves = refl; holds = refl }), refl)
+  refused false e = (rw e (record { answers = refl; reads = refl; writes = refl; leaves = refl; holds = refl }), refl)
 
   pub begins : (once : Bool) → Stands once (begun once (length tb₀) (length ws) .more) (begun once (length tb₀) (length ws)) tb₀ out₀
   begins once = go once (eqb (length tb₀) wholeTable) refl
@@ -139,7 +147,7 @@ module _ (j : Job) (ws : List ℕ) (tb₀ : List Record) (out₀ : List ℕ) whe
       goes : (l : length tb₀ ≡ wholeTable) (once d : Bool) → ltb 0 (length ws) ≡ d → Stands once (once || d) (first once d) tb₀ out₀
       goes l true d e = (l, (refl, refl, refl, refl))
       goes l false true e = (l, (start (tableStep j) (step-near j) (step-inside j) tb₀ ws out₀, ltb-true 0 (length ws) e))
-      goes l false false e = rw (asked-run (tableStep j) (length out₀) tb₀ ws l) (finish (tableStep j) (step-near j) (step-inside j) tb₀ ws out₀ tb₀ out₀ 0 0 (start (tableStep j) (step-near j) (step-inside j) tb₀ ws out₀) (ltb-false 0 (length ws) e))
+      goes l false false e = (rw (asked-run (tableStep j) (length out₀) tb₀ ws l) (finish (tableStep j) (step-near j) (step-inside j) tb₀ ws out₀ tb₀ out₀ 0 0 (start (tableStep j) (step-near j) (step-inside j) tb₀ ws out₀) (ltb-false 0 (length ws) e)), refl)
 
       go : (once b : Bool) → eqb (length tb₀) wholeTable ≡ b
           → let q : Progress = record { done = counting (cond b sent noTable) 0 0; more = b && (once || ltb 0 (length ws)) } in Stands once (q .more) q tb₀ out₀
@@ -208,10 +216,22 @@ module _ (ws : List ℕ) (j : Job) (tb : List Record) (out : List ℕ) where
       go true h = let x = h refl in omega (arith, x .0, x .1)
       go false h = omega arith
 
-  -- where there is no more, all is done
-  pub ended : (t : Turn) → t .st .p .more ≡ false → DidRun (asked j (length out) tb ws) out (t .st .p .done .answer) (t .st .p .done .read) (t .st .p .done .written) (t .st .tb) (t .st .out)
+  -- where there is no more, all is done, and the report is that of what was asked for
+  pub ended : (t : Turn) → t .st .p .more ≡ false
+      → let r = asked j (length out) tb ws in
+      let d = t .st .p .done in
+      DidRun r out (d .answer) (d .read) (d .written) (t .st .tb) (t .st .out) × (d ≡ askedReport j ws r)
   unfolding asked
-  ended t e = subst (λ (b : Bool). Stands j ws tb out (j .once) b (t .st .p) (t .st .tb) (t .st .out)) e (t .stands)
+  ended t e =
+      let z = subst (λ (b : Bool). Stands j ws tb out (j .once) b (t .st .p) (t .st .tb) (t .st .out)) e (t .stands) in
+      (z .0, told (j .once) (t .st .p .done) (askedBy (tableStep j) (j .once) (length out) tb ws) (reports (z .0)) (z .1))
+    where
+      told : (once : Bool) (d : Done) (r : Ran (ℕ × List Record)) → counting (d .answer) (d .read) (d .written) ≡ reported r
+          → d .place ≡ cond once (placeTold (d .answer) (packet ws)) 0 → d ≡ cond once (reportedCall (packet ws) r) (reported r)
+      told true d r e f =
+          ap (λ (x : ℕ). placing (d .answer) x (d .read) (d .written)) f
+          ∙ ap (λ (x : Done). placing (x .answer) (placeTold (x .answer) (packet ws)) (x .read) (x .written)) e
+      told false d r e f = ap (λ (x : ℕ). placing (d .answer) x (d .read) (d .written)) f ∙ e
 
   abbrev pub begun-at : State
   begun-at = record { p = begun (j .once) (length tb) (length ws); tb = tb; out = out }

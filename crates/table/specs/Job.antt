@@ -3,7 +3,9 @@ use Prim.Native.Nat.{ℕ}
 use mathlib.Core.Bool.{Bool, true, false, cond}
 use mathlib.Core.List.{List}
 use Rattle.ump.specs.Packet.{packet}
+use Rattle.stream.specs.declared.Done.{Done}
 use Rattle.stream.specs.Call.{Call, within}
+use Rattle.stream.specs.Report.{reported, reportedCall}
 use Rattle.stream.specs.Run.{Ran, called}
 use Rattle.channel.specs.declared.Record.{Record}
 use Rattle.voice.specs.Packet.{callUp}
@@ -29,3 +31,7 @@ askedBy step once room t s = cond once (called (packet s) (room, t) (within step
 
 unfoldable pub asked : Job → ℕ → List Record → List ℕ → Ran (ℕ × List Record)
 asked job room t s = askedBy (tableStep job) (job .once) room t s
+
+-- what is reported of it: only a call alone has a place
+abbrev pub askedReport : {T : Type 0} → Job → List ℕ → Ran T → Done
+askedReport job s r = cond (job .once) (reportedCall (packet s) r) (reported r)

@@ -10,6 +10,7 @@ use stream::Done;
 use stream::NO_TABLE;
 use stream::SENT;
 use stream::report;
+use stream::report_place;
 use voice::RecordAndReport;
 ghost use mathlib.Core.Path.{_≡_};
 ghost use mathlib.Core.Bool.{cond, not, _&&_, _||_};
@@ -18,10 +19,10 @@ ghost use lib.ListN.{getD, length};
 ghost use Rattle.ground.specs.Store.{atStart};
 ghost use Rattle.ump.specs.Word.{placeOf};
 ghost use Rattle.stream.specs.Answers.{noTable, sent};
-ghost use Rattle.stream.specs.Report.{counting, reported};
+ghost use Rattle.stream.specs.Report.{counting, placing, reported};
 ghost use Rattle.channel.specs.Record.{wholeTable};
 ghost use Rattle.table.specs.Table.{runUp, tableAfter};
-ghost use Rattle.table.specs.Job.{asked, oneCall, recordStep, tableStep, wholeRun};
+ghost use Rattle.table.specs.Job.{asked, askedReport, oneCall, recordStep, tableStep, wholeRun};
 ghost use Rattle.table.specs.Next.{outputAfterCall, reportAfterCall, stateAfter, turnAt};
 
 // What the loop is told: whether it is to make one call only.
@@ -113,25 +114,34 @@ fn answer_of(last: bool, answer: u32) -> u32
     if last { answer } else { SENT }
 }
 
+fn place_told(once: bool, place: u32) -> u32
+    ensures { λ r. ⌜ r ≡ cond once place 0 ⌝ }
+{
+    if once { place } else { 0 }
+}
+
 // After a call. One that is the only one, or that read nothing, is the last and has the answer; a run that goes on has
-// none yet.
+// none yet. Only a call alone has a place.
 fn onward(words: usize, job: Job, past: Done, done: Done) -> Progress
-    ensures report { λ r. ⌜ r .done ≡ counting
-        (cond (job .once || eqb (done .read) (past .read)) (done .answer) sent) (done .read) (done .written) ⌝ }
+    ensures report { λ r. ⌜ r .done ≡ placing
+        (cond (job .once || eqb (done .read) (past .read)) (done .answer) sent) (cond (job .once) (done .place) 0)
+        (done .read) (done .written) ⌝ }
     ensures more { λ r. ⌜ r .more
         ≡ (not (job .once || eqb (done .read) (past .read)) && ltb (done .read) words) ⌝ }
 {
     let last = job.once | (done.read == past.read);
+    let answer = answer_of(last, done.answer);
+    let place = place_told(job.once, done.place);
     Progress {
-        done: report(answer_of(last, done.answer), done.read, done.written),
+        done: report_place(answer, place, done.read, done.written),
         more: !last & (done.read < words),
     }
 }
 
 // The call at the start of the words, or the run over all of them.
 pub fn treat(words: &[u32], job: Job, table: &mut [Record], out: &mut [u32]) -> Done
-    ensures report { λ r. ⌜ r
-        ≡ reported (asked job (length (now (out .entry))) (now (table .entry)) (now (words .entry))) ⌝ }
+    ensures report { λ r. ⌜ r ≡ askedReport job (now (words .entry))
+        (asked job (length (now (out .entry))) (now (table .entry)) (now (words .entry))) ⌝ }
     ensures table { λ _. ⌜ now (table .exit)
         ≡ tableAfter (asked job (length (now (out .entry))) (now (table .entry)) (now (words .entry))) ⌝ }
     ensures output { λ _. ⌜ now (out .exit) ≡ atStart

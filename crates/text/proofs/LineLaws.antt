@@ -6,11 +6,12 @@ use mathlib.Core.List.{List, [], _∷_, _++_, append-assoc, append-nil}
 use native.Mathlib.Omega.{arith}
 use native.Mathlib.Nat.{div-div-eq-div-mul, div-one, pow-suc, pow-zero}
 use native.Mathlib.Numerals.{add-one}
-use lib.Dec.{leb, ltb}
+use lib.Dec.{eqb, leb, ltb}
 use lib.ListN.{length, length-append, getD, set, take}
 use lib.Seq.{length-take-le, sets, take-suc}
-use borrow.Author.Tests.{le-leb, le-ltb, leb-false, leb-true, lt-leb, lt-ltb, ltb-false}
-use Rattle.text.specs.Lines.{decimal, digits, glyph, hex, hexFields, lineOf, places, placesIn}
+use borrow.Author.Tests.{eqb-false, le-leb, le-ltb, leb-false, leb-true, lt-leb, lt-ltb, ltb-false, ne-eqb}
+use Rattle.text.specs.Lines.{decimal, digits, glyph, hex, hexFields, lineOf, placeField, places, placesIn}
+use Rattle.ground.proofs.Cases.{by-bool}
 use Rattle.ground.proofs.Stores.{set-sets, sets-append}
 
 pub digits-length : (b k n : ℕ) → length (digits b k n) ≡ k
@@ -112,35 +113,69 @@ fields-more l ws to i h =
     rw (add-one i, add-one (to + 9 * i), take-suc ws i 0 h, fields-append (take i ws) (getD ws i 0 ∷ []), append-nil w)
     (rw (sets-append l to f w, n))
 
-pub line-length : (answer read : ℕ) (ws : List ℕ)
-    → length (lineOf answer read ws) ≡ places answer + places read + 2 + 9 * length ws
+pub place-length : (place : ℕ) → (place ≡ 0 → ⊥) → length (placeField place) ≡ 1 + places place
+unfolding placeField
+place-length place n = rw (ne-eqb place 0 n) (omega (arith, digits-length 10 (places place) place))
+
+-- by the number of its bytes: none, or a space and the digits
+pub place-none : (place : ℕ) → length (placeField place) ≡ 0 → placeField place ≡ []
+unfolding placeField
+place-none place h =
+    by-bool (eqb place 0) (λ e. rw e) (λ e. absurd (omega (arith, h, place-length place (eqb-false place 0 e))))
+
+pub place-some : (place bytes : ℕ) → bytes ≡ length (placeField place) → (bytes ≡ 0 → ⊥)
+    → placeField place ≡ 32 ∷ digits 10 (bytes - 1) place
+unfolding placeField
+place-some place bytes e n =
+    by-bool (eqb place 0) (λ z. absurd (n (rw z at e)))
+    (λ z. let k : bytes - 1 ≡ places place = omega (arith, e, place-length place (eqb-false place 0 z)) in rw (z, k))
+
+pub line-length : (answer read place : ℕ) (ws : List ℕ)
+    → length (lineOf answer read place ws) ≡ places answer + places read + length (placeField place) + 2 + 9 * length ws
 unfolding lineOf
-line-length answer read ws =
-    let p = length-append (decimal answer ++ (32 ∷ decimal read) ++ hexFields ws) (10 ∷ []) in
-    let q = length-append (decimal answer ++ (32 ∷ decimal read)) (hexFields ws) in
+line-length answer read place ws =
+    let k = placeField place in
+    let p = length-append (decimal answer ++ (32 ∷ decimal read) ++ k ++ hexFields ws) (10 ∷ []) in
+    let q = length-append (decimal answer ++ (32 ∷ decimal read) ++ k) (hexFields ws) in
+    let o = length-append (decimal answer ++ (32 ∷ decimal read)) k in
     let r = length-append (decimal answer) (32 ∷ decimal read) in
     omega (arith, fields-length ws, digits-length 10 (places answer) answer, digits-length 10 (places read) read)
 
-pub line-fits : (answer read a b : ℕ) (ws : List ℕ) (room : ℕ) (t : Bool) → a ≡ places answer → b ≡ places read
-    → t ≡ leb (a + b + 2 + 9 * length ws) room → leb (length (lineOf answer read ws)) room ≡ t
-line-fits answer read a b ws room t ea eb e = rw (line-length answer read ws, ← ea, ← eb) (sym e)
+pub line-fits : (answer read place a b c : ℕ) (ws : List ℕ) (room : ℕ) (t : Bool) → a ≡ places answer → b ≡ places read
+    → c ≡ length (placeField place)
+    → t ≡ leb (a + b + c + 2 + 9 * length ws) room → leb (length (lineOf answer read place ws)) room ≡ t
+line-fits answer read place a b c ws room t ea eb ec e = rw (line-length answer read place ws, ← ea, ← eb, ← ec) (sym e)
 
 -- the whole line, part by part
-pub line-stored : (l : List ℕ) (to answer read a b : ℕ) (ws : List ℕ) → a ≡ places answer → b ≡ places read
-    → set (sets (sets (set (sets l to (digits 10 a answer)) (to + a) 32) (to + a + 1) (digits 10 b read))
-    (to + a + 1 + b) (hexFields ws)) (to + a + 1 + b + 9 * length ws) 10
-    ≡ sets l to (lineOf answer read ws)
+pub line-stored : (l : List ℕ) (to answer read place a b c : ℕ) (ws : List ℕ) → a ≡ places answer → b ≡ places read
+    → c ≡ length (placeField place)
+    → set (sets (sets (sets (set (sets l to (digits 10 a answer)) (to + a) 32) (to + a + 1) (digits 10 b read))
+    (to + a + 1 + b) (placeField place)) (to + a + 1 + b + c) (hexFields ws)) (to + a + 1 + b + c + 9 * length ws) 10
+    ≡ sets l to (lineOf answer read place ws)
 unfolding lineOf
-line-stored l to answer read a b ws ea eb =
+line-stored l to answer read place a b c ws ea eb ec =
     let d = decimal answer in
     let e = decimal read in
+    let k = placeField place in
     let f = hexFields ws in
     let m = digits-length 10 (places answer) answer in
     let n = digits-length 10 (places read) read in
     let p = length-append d (32 ∷ e) in
+    let q = length-append (d ++ (32 ∷ e)) k in
     let one : to + length d ≡ to + places answer = omega arith in
     let two : to + length (d ++ (32 ∷ e)) ≡ to + places answer + 1 + places read = omega arith in
-    let three : to + length (d ++ (32 ∷ e) ++ f) ≡ to + places answer + 1 + places read + 9 * length ws =
-    omega (arith, length-append (d ++ (32 ∷ e)) f, fields-length ws) in
-    rw (ea, eb, sets-append l to (d ++ (32 ∷ e) ++ f) (10 ∷ []), three, sets-append l to (d ++ (32 ∷ e)) f, two)
+    let three : to + length (d ++ (32 ∷ e) ++ k) ≡ to + places answer + 1 + places read + length k = omega arith in
+    let four : to + length (d ++ (32 ∷ e) ++ k ++ f) ≡ to + places answer + 1 + places read + length k + 9 * length ws =
+    omega (arith, length-append (d ++ (32 ∷ e) ++ k) f, fields-length ws) in
+    rw (
+      ea,
+      eb,
+      ec,
+      sets-append l to (d ++ (32 ∷ e) ++ k ++ f) (10 ∷ []),
+      four,
+      sets-append l to (d ++ (32 ∷ e) ++ k) f,
+      three,
+      sets-append l to (d ++ (32 ∷ e)) k,
+      two,
+    )
     (rw (sets-append l to d (32 ∷ e), one, add-one (to + places answer)))

@@ -1,8 +1,9 @@
--- RULES 10.2: a line of the listing, in ASCII. Two decimal numbers and the words in hex, with one space between them.
+-- RULES 10.2: a line of the listing, in ASCII. Two decimal numbers, or three where there is a place, and the words in
+-- hex, with one space between them.
 use Prim.Native.Nat.{ℕ, zero, suc, _+_, _-_, _/_, _%_, _^_}
 use mathlib.Core.Bool.{Bool, cond}
 use mathlib.Core.List.{List, [], _∷_, _++_}
-use lib.Dec.{leb, ltb}
+use lib.Dec.{eqb, leb, ltb}
 use lib.ListN.{length}
 use lib.Seq.{sets}
 
@@ -38,9 +39,14 @@ unfoldable pub hexFields : List ℕ → List ℕ
 hexFields [] = []
 hexFields (w ∷ ws) = (32 ∷ hex w) ++ hexFields ws
 
+-- RULES 10.2: a place, with a space before it; 0 is none
+unfoldable pub placeField : ℕ → List ℕ
+placeField place = cond (eqb place 0) [] (32 ∷ decimal place)
+
 -- RULES 10.2: the whole line, with the end of the line (10)
-unfoldable pub lineOf : ℕ → ℕ → List ℕ → List ℕ
-lineOf answer read ws = decimal answer ++ (32 ∷ decimal read) ++ hexFields ws ++ (10 ∷ [])
+unfoldable pub lineOf : ℕ → ℕ → ℕ → List ℕ → List ℕ
+lineOf answer read place ws =
+    decimal answer ++ (32 ∷ decimal read) ++ placeField place ++ hexFields ws ++ (10 ∷ [])
 
 -- RULES 10.2: whether a row fits into a buffer from a place on
 abbrev pub fitsFrom : List ℕ → ℕ → List ℕ → Bool

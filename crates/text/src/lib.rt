@@ -1,4 +1,5 @@
-// A line of the listing: the answer, the words read, and each word sent in upper-case hex.
+// A line of the listing: the answer, the words read, a place where there is one, and each word sent in
+// upper-case hex.
 //
 // `line` has no `requires`. It says what it answers and what the lent buffer holds after it, on every
 // input: a line that does not fit is not begun.
@@ -7,7 +8,7 @@ ghost use Prim.Native.Nat.{_+_, _*_, _-_, _<_, _≤_};
 ghost use lib.Dec.{leb};
 ghost use lib.ListN.{length};
 ghost use lib.Seq.{sets};
-ghost use Rattle.text.specs.Lines.{digits, hexFields, lineOf, placeAfter, withRow};
+ghost use Rattle.text.specs.Lines.{digits, hexFields, lineOf, placeAfter, placeField, withRow};
 ghost use Rattle.text.specs.Lines;
 
 const SPACE: u8 = b' ';
@@ -89,39 +90,73 @@ fn is_room(len: usize, to: usize, head: usize, words: usize) -> bool
     words <= (room - head) / 9
 }
 
-// Stores the line of a call whose two numbers have a and b digits, and answers the place after it.
+// How many bytes a place takes with the space before it; none has none.
+fn place_bytes(place: u32) -> usize
+    ensures count { λ r. ⌜ r ≡ length (placeField place) ⌝ }
+    ensures few { λ r. ⌜ r ≤ 21 ⌝ }
+{
+    if place == 0 {
+        0
+    } else {
+        1 + places(place as u64)
+    }
+}
+
+// Stores a place of so many bytes with the space before it, or nothing, and answers the place after it.
+fn put_place(place: u32, bytes: usize, out: &mut [u8], to: usize) -> usize
+    requires { ⌜ (bytes ≡ length (placeField place)) × (to + bytes ≤ length (now out)) ⌝ }
+    ensures end { λ r. ⌜ r ≡ to + bytes ⌝ }
+    ensures text { λ _. ⌜ now (out .exit) ≡ sets (now (out .entry)) to (placeField place) ⌝ }
+{
+    if bytes == 0 {
+        return to;
+    }
+    out[to] = SPACE;
+    spell(place as u64, 10, bytes - 1, out, to + 1);
+    to + bytes
+}
+
+// Stores the line of a call whose two numbers have a and b digits and whose place takes c bytes, and
+// answers the place after it.
 fn put_line(
     answer: u32,
     a: usize,
     read: usize,
     b: usize,
+    place: u32,
+    c: usize,
     words: &[u32],
     out: &mut [u8],
     to: usize,
 ) -> usize
-    requires { ⌜ (a ≡ Lines.places answer) × (b ≡ Lines.places read)
-        × (to + (a + b + 2 + 9 * length (now words)) ≤ length (now out)) ⌝ }
-    ensures place { λ r. ⌜ r ≡ to + length (lineOf answer read (now (words .entry))) ⌝ }
-    ensures text { λ _. ⌜ now (out .exit) ≡ sets (now (out .entry)) to (lineOf answer read (now (words .entry))) ⌝ }
+    requires { ⌜ (a ≡ Lines.places answer) × (b ≡ Lines.places read) × (c ≡ length (placeField place))
+        × (to + (a + b + c + 2 + 9 * length (now words)) ≤ length (now out)) ⌝ }
+    ensures place { λ r. ⌜ r ≡ to + length (lineOf answer read place (now (words .entry))) ⌝ }
+    ensures text { λ _. ⌜ now (out .exit)
+        ≡ sets (now (out .entry)) to (lineOf answer read place (now (words .entry))) ⌝ }
 {
     spell(answer as u64, 10, a, out, to);
     out[to + a] = SPACE;
     spell(read as u64, 10, b, out, to + a + 1);
-    let end = put_hex_fields(words, out, to + a + 1 + b);
+    let fields = put_place(place, c, out, to + a + 1 + b);
+    let end = put_hex_fields(words, out, fields);
     out[end] = NEWLINE;
     end + 1
 }
 
 // Writes the line of a call from a place on and answers the place after it, or, where it does not
 // fit, writes nothing and answers the place.
-pub fn line(answer: u32, read: usize, words: &[u32], out: &mut [u8], to: usize) -> usize
-    ensures place { λ r. ⌜ r ≡ placeAfter (now (out .entry)) to (lineOf answer read (now (words .entry))) ⌝ }
-    ensures text { λ _. ⌜ now (out .exit) ≡ withRow (now (out .entry)) to (lineOf answer read (now (words .entry))) ⌝ }
+pub fn line(answer: u32, read: usize, place: u32, words: &[u32], out: &mut [u8], to: usize) -> usize
+    ensures place { λ r. ⌜ r
+        ≡ placeAfter (now (out .entry)) to (lineOf answer read place (now (words .entry))) ⌝ }
+    ensures text { λ _. ⌜ now (out .exit)
+        ≡ withRow (now (out .entry)) to (lineOf answer read place (now (words .entry))) ⌝ }
 {
     let a = places(answer as u64);
     let b = places(read as u64);
-    if is_room(out.len(), to, a + b + 2, words.len()) {
-        put_line(answer, a, read, b, words, out, to)
+    let c = place_bytes(place);
+    if is_room(out.len(), to, a + b + c + 2, words.len()) {
+        put_line(answer, a, read, b, place, c, words, out, to)
     } else {
         to
     }

@@ -21,11 +21,11 @@ use Rattle.ump.proofs.PacketLaws.{packet-length, packet-size, size-range}
 use Rattle.stream.specs.declared.Done.{Done}
 use Rattle.stream.specs.Answers.{noForm, noRoom, notSound, sent, stopsRun, takenIn}
 use Rattle.stream.specs.Call.{Call, answerOf, leftOf, readOf, refused, sentOf, stopped, went}
-use Rattle.stream.specs.Report.{counting}
+use Rattle.stream.specs.Report.{counting, placeTold, placing}
 use Rattle.stream.proofs.CallLaws.{refusal, refused-fits}
 use Rattle.screen.specs.declared.Screened.{Screened}
 use Rattle.screen.specs.Screen.{checkVoice1, goesOn, screen, screened}
-use Rattle.screen.proofs.ScreenLaws.{check-above, check-goes-on, cut-only}
+use Rattle.screen.proofs.ScreenLaws.{check-above, check-goes-on, check-place, cut-only, screen-place}
 use Rattle.channel.specs.declared.Record.{Record}
 use Rattle.channel.specs.Record.{sound}
 use Rattle.message.specs.Message.{Midi1, Midi2, read1, read2, write1}
@@ -55,7 +55,7 @@ packed-words (a ∷ b ∷ c ∷ d ∷ e ∷ ws) h = absurd (omega arith)
 module _ {T : Type 0} (d : Done) (p out : List ℕ) (t : T) where
   -- a refusal
   module _ (a : ℕ) (no-packet : stopsRun a ≡ true → p ≡ []) where
-    pub refused-report : reportOf d p out (refused a t) ≡ counting a (d .read + length p) (d .written)
+    pub refused-report : reportOf d p out (refused a t) ≡ placing a (placeTold a p) (d .read + length p) (d .written)
     refused-report =
         let z = refusal {T = ℕ × T} a (length out - d .written, t) p no-packet in
         rw (refused-fits (length out - d .written) a t, z .0, z .1, z .2, add-zero (d .written))
@@ -70,7 +70,7 @@ module _ {T : Type 0} (d : Done) (p out : List ℕ) (t : T) where
     abbrev Sent : Call (ℕ × T) → Bool → Type 0
     Sent c b =
         (_≡_ {A = Done} (cond b (counting sent (d .read + length p) (d .written + length ws)) (counting noRoom (d .read) (d .written)))
-        (counting (answerOf c) (d .read + readOf p c) (d .written + length (sentOf c))))
+        (placing (answerOf c) (placeTold (answerOf c) p) (d .read + readOf p c) (d .written + length (sentOf c))))
         × (cond b (written (d .written) ws out) out ≡ written (d .written) (sentOf c) out)
 
     pub sent-words : (reportAfter d (length p) out ws ≡ reportOf d p out (went sent ws t)) × (outputAfter d out ws ≡ outputOf d out (went sent ws t))
@@ -91,7 +91,7 @@ refuses s t act n = rw (ne-eqb (s .answer) goesOn n)
 
 -- a record that stays beside a refusal
 pub refused-turn : (d : Done) (p out : List ℕ) (r : Record) (may : Bool) (a : ℕ) → (stopsRun a ≡ true → p ≡ []) → leb a takenIn ≡ false
-    → record { after = r; changes = false; done = counting a (d .read + length p) (d .written) } ≡ turned d p out r may (refused a r)
+    → record { after = r; changes = false; done = placing a (placeTold a p) (d .read + length p) (d .written) } ≡ turned d p out r may (refused a r)
 refused-turn d p out r may a no-packet above =
     let z = refusal {T = ℕ × Record} a (length out - d .written, r) p no-packet in
     rw (refused-fits (length out - d .written) a r, z .0, z .1, z .2, z .3, above, add-zero (d .written))
@@ -166,11 +166,11 @@ module _ (d : Done) (p out : List ℕ) (r : Record) where
   abbrev Same : Call (ℕ × Unit {0}) → Call (ℕ × Record) → Type 0
   Same c k =
       (_≡_ {A = RecordAndReport}
-      (record { after = r; changes = false; done = counting (answerOf c) (d .read + readOf p c) (d .written + length (sentOf c)) })
+      (record { after = r; changes = false; done = placing (answerOf c) (placeTold (answerOf c) p) (d .read + readOf p c) (d .written + length (sentOf c)) })
       (record {
         after = leftOf (room, r) k .1;
         changes = changedBy false k;
-        done = counting (answerOf k) (d .read + readOf p k) (d .written + length (sentOf k));
+        done = placing (answerOf k) (placeTold (answerOf k) p) (d .read + readOf p k) (d .written + length (sentOf k));
       }))
       × (written (d .written) (sentOf c) out ≡ written (d .written) (sentOf k) out)
 
@@ -221,13 +221,14 @@ module _ (d : Done) (p out : List ℕ) (r : Done) (o : List ℕ) where
     pub passed-comes : s .answer ≡ goesOn → Comes act → Comes (screened (screen wrong p) tt act)
     passed-comes a h = rw (passes {T = Unit {0}} (screen wrong p) tt act (sym (ap (λ (x : Screened). x .answer) e) ∙ a)) h
 
-    pub refused-comes : (s .answer ≡ goesOn → ⊥) → r ≡ counting (s .answer) (d .read + length p) (d .written) → o ≡ out
+    pub refused-comes : (s .answer ≡ goesOn → ⊥) → r ≡ placing (s .answer) (s .place) (d .read + length p) (d .written) → o ≡ out
         → Comes (screened (screen wrong p) tt act)
     refused-comes n f g =
         let no-packet : stopsRun (s .answer) ≡ true → p ≡ [] = λ k. cut-only wrong p (ap (λ (x : Screened). stopsRun (x .answer)) (sym e) ∙ k) in
         let k : screened (screen wrong p) tt act ≡ refused (s .answer) tt =
         rw (← e) (refuses {T = Unit {0}} s tt act n) in
-        rw k (f ∙ sym (refused-report {T = Unit {0}} d p out tt (s .answer) no-packet), g ∙ refused-output {T = Unit {0}} d p out tt (s .answer) no-packet)
+        let told : s .place ≡ placeTold (s .answer) p = rw (← e) at (screen-place wrong p) in
+        rw k (f ∙ ap (λ (x : ℕ). placing (s .answer) x (d .read + length p) (d .written)) told ∙ sym (refused-report {T = Unit {0}} d p out tt (s .answer) no-packet), g ∙ refused-output {T = Unit {0}} d p out tt (s .answer) no-packet)
 
   -- a MIDI 2.0 message: without a form, or with
   module _ (w v : ℕ) (x : UpToFourWords) (e : x ≡ wordsIn w (lower (read2 w v))) where
@@ -281,14 +282,15 @@ unfolding speakUp
 speaks-unsound d w r out h = (rw (h, add-zero (d .read), add-zero (d .written)), rw h (sym (written-none (d .written) out)))
 
 -- a MIDI 1.0 voice message that the check refuses
-pub check-refused : (d : Done) (w : ℕ) (r : Record) (out : List ℕ) (s : Screened) → s ≡ checkVoice1 w → (s .answer ≡ goesOn → ⊥)
-    → (record { after = r; changes = false; done = counting (s .answer) (d .read + 1) (d .written) }
+pub check-refused : (d : Done) (w : ℕ) (r : Record) (out : List ℕ) (s : Screened) → messageType w ≡ voice1 → s ≡ checkVoice1 w
+    → (s .answer ≡ goesOn → ⊥)
+    → (record { after = r; changes = false; done = placing (s .answer) (s .place) (d .read + 1) (d .written) }
     ≡ turned d (w ∷ []) out r (changes (read1 w)) (screened (checkVoice1 w) r (speakUp r w)))
     × (out ≡ outputOf d out (screened (checkVoice1 w) r (speakUp r w)))
-check-refused d w r out s e n =
+check-refused d w r out s v e n =
     let f : checkVoice1 w .answer ≡ goesOn → ⊥ = λ z. n (ap (λ (x : Screened). x .answer) e ∙ z) in
     let no-packet : stopsRun (checkVoice1 w .answer) ≡ true → (w ∷ []) ≡ [] = λ k. not-both (sym (check-goes-on w) ∙ k) in
-    rw (e, refuses (checkVoice1 w) r (speakUp r w) f) (
+    rw (e, refuses (checkVoice1 w) r (speakUp r w) f, check-place w v) (
       refused-turn d (w ∷ []) out r (changes (read1 w)) (checkVoice1 w .answer) no-packet (check-above w f),
       refused-output d (w ∷ []) out r (checkVoice1 w .answer) no-packet,
     )

@@ -30,7 +30,7 @@ fn speak_down(past: Done, packet: &[u32], out: &mut [u32]) -> Done
 {
     let words = lower::lowered(word_at(packet, 0), word_at(packet, 1));
     if words.count == 0 {
-        refuse(past, NO_FORM, packet.len())
+        report(NO_FORM, past.read + packet.len(), past.written)
     } else {
         send(past, packet.len(), words, out)
     }
@@ -48,7 +48,7 @@ fn voice_down(past: Done, packet: &[u32], out: &mut [u32]) -> Done
     if screened.answer == GOES_ON {
         speak_down(past, packet, out)
     } else {
-        refuse(past, screened.answer, packet.len())
+        refuse(past, screened, packet.len())
     }
 }
 
@@ -78,7 +78,7 @@ pub fn run_down(words: &[u32], out: &mut [u32]) -> Done
     while read < words.len() {
         let done = down(words, report(SENT, read, written), out);
         if done.read == read {
-            return done;
+            return report(done.answer, read, done.written);
         }
         read = done.read;
         written = done.written;

@@ -1,15 +1,17 @@
 // What a packet sends, stored into a lent output after what was written so far.
 use lower::UpToFourWords;
 use screen::GOES_ON;
+use screen::Screened;
 use stream::Done;
 use stream::NO_ROOM;
 use stream::SENT;
 use stream::report;
+use stream::report_place;
 ghost use mathlib.Core.Path.{_≡_};
 ghost use Prim.Native.Nat.{_+_, _-_, _≤_, _<_, _^_};
 ghost use lib.Dec.{leb};
 ghost use lib.ListN.{length};
-ghost use Rattle.stream.specs.Report.{counting};
+ghost use Rattle.stream.specs.Report.{placing};
 ghost use Rattle.lower.specs.Values.{packed};
 ghost use Rattle.voice.specs.Output.{sentWords};
 ghost use Rattle.voice.specs.Packet.{onwardOf};
@@ -73,13 +75,13 @@ fn put(out: &mut [u32], to: usize, words: UpToFourWords) -> bool
     }
 }
 
-// The report of a refused packet of n words: it is read, and nothing else happens. A cut packet has
-// no words.
-pub(crate) fn refuse(past: Done, answer: u32, n: usize) -> Done
+// The report of a packet of n words that the screening refuses: it is read, and nothing else happens.
+// A cut packet has no words.
+pub(crate) fn refuse(past: Done, screened: Screened, n: usize) -> Done
     requires { ⌜ past .read + n < 2 ^ 64 ⌝ }
-    ensures { λ r. ⌜ r ≡ counting answer (past .read + n) (past .written) ⌝ }
+    ensures { λ r. ⌜ r ≡ placing (screened .answer) (screened .place) (past .read + n) (past .written) ⌝ }
 {
-    report(answer, past.read + n, past.written)
+    report_place(screened.answer, screened.place, past.read + n, past.written)
 }
 
 // A packet of n words sends up to four words, if there is room for them.
@@ -110,6 +112,6 @@ pub(crate) fn onward(wrong: u32, past: Done, packet: &[u32], out: &mut [u32]) ->
     if screened.answer == GOES_ON {
         send(past, packet.len(), same_words(packet), out)
     } else {
-        refuse(past, screened.answer, packet.len())
+        refuse(past, screened, packet.len())
     }
 }

@@ -19,6 +19,7 @@ ghost use mathlib.Core.Path.{_≡_};
 ghost use mathlib.Core.Bool.{false};
 ghost use mathlib.Core.List.{[], _∷_};
 ghost use Prim.Native.Nat.{_+_, _<_, _^_};
+ghost use Rattle.ump.specs.Word.{messageType, voice1};
 ghost use Rattle.screen.specs.Screen.{checkVoice1, screened};
 ghost use Rattle.message.specs.Message.{read1};
 ghost use Rattle.lift.specs.Lift.{changes};
@@ -86,7 +87,7 @@ fn speak_up(past: Done, record: Record, w: u32, out: &mut [u32]) -> RecordAndRep
 
 // A MIDI 1.0 voice message, by its one word.
 fn voice_up(past: Done, record: Record, w: u32, out: &mut [u32]) -> RecordAndReport
-    requires { ⌜ past .read + 1 < 2 ^ 64 ⌝ }
+    requires { ⌜ (past .read + 1 < 2 ^ 64) × (messageType w ≡ voice1) ⌝ }
     ensures turn { λ r. ⌜ r ≡ turned past (w ∷ []) (now (out .entry)) «record» (changes (read1 w))
         (screened (checkVoice1 w) «record» (speakUp «record» w)) ⌝ }
     ensures output { λ _. ⌜ now (out .exit) ≡ outputOf past (now (out .entry))
@@ -96,7 +97,7 @@ fn voice_up(past: Done, record: Record, w: u32, out: &mut [u32]) -> RecordAndRep
     if screened.answer == GOES_ON {
         speak_up(past, record, w, out)
     } else {
-        stays(record, refuse(past, screened.answer, 1))
+        stays(record, refuse(past, screened, 1))
     }
 }
 

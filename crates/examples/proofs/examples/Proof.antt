@@ -2,7 +2,7 @@
 use mathlib.Core.Path.{refl}
 use Rattle.scale.specs.Scale.{fill, up}
 use Rattle.ump.specs.Packet.{packet, size}
-use Rattle.screen.specs.Check.{checkedFields, goodFields, goodStatus, voice1Fields, voice2Fields}
+use Rattle.fields.specs.Check.{badPlace, checkedFields, goodStatus, voice1Fields, voice2Fields}
 use Rattle.screen.specs.Screen.{screen, screened}
 use Rattle.channel.specs.Record.{kept, sound, withDataHigh}
 use Rattle.message.specs.Message.{bankOf, first2, read1, read2, second2, write1}
@@ -14,7 +14,7 @@ use Rattle.examples.proofs.examples.Statement.{statement}
 use Rattle.examples.proofs.examples.Tie as tie
 
 returns : tie.Need-returns
-unfolding fill up packet size checkedFields goodFields goodStatus voice1Fields voice2Fields screen screened kept sound withDataHigh bankOf first2 read1 read2 second2 write1 addressed2 banked2 controlOf controlled dataLow lift lower sounding callDown callUp packetDown packetUp speakDown speakUp Examples examples goingDown goingUp
+unfolding fill up packet size checkedFields badPlace goodStatus voice1Fields voice2Fields screen screened kept sound withDataHigh bankOf first2 read1 read2 second2 write1 addressed2 banked2 controlOf controlled dataLow lift lower sounding callDown callUp packetDown packetUp speakDown speakUp Examples examples goingDown goingUp
 returns c = refl
 
 pub examples-spec : {M : Type 1} → statement M

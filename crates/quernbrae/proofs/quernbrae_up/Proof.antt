@@ -5,7 +5,8 @@ use Rattle.channel.specs.declared.Record.{Record}
 use Rattle.stream.specs.declared.Done.{Done}
 use Rattle.stream.proofs.Done.Laws as TD′
 use Rattle.ground.specs.Store.{atStart}
-use Rattle.stream.specs.Report.{reported}
+use Rattle.ump.specs.Packet.{packet}
+use Rattle.stream.specs.Report.{reportedCall}
 use Rattle.stream.specs.Run.{Ran}
 use Rattle.table.specs.Table.{tableAfter}
 use Rattle.table.specs.Job.{asked, oneCall}
@@ -68,7 +69,7 @@ module _ {M : Type 1} (𝓤 : URA M) (H : Heap 𝓤) (A : Atoms 𝓤) (W : Given
   asked-for = asked oneCall (length (y .now)) (x .now) (w .now)
 
   abbrev r′ : Done
-  r′ = reported asked-for
+  r′ = reportedCall (packet (w .now)) asked-for
 
   abbrev zs′ : List Record
   zs′ = tableAfter asked-for

@@ -9,7 +9,5 @@ check-spec =
     tie.close
     (tie.spec
     (λ c κs. search needs) (λ c κs. search needs) (λ c κs. search needs) (λ c κs. search needs)
-    (λ c κs. search needs)
-    (λ c. simp (tests, ← c .finding .ensures, c .before .if2 .taken, ← c .before .before .is-good-data .ensures, c .before .before .before .if1 .taken, ← c .before .before .before .before .is-good-status .ensures))
-    (λ c. simp (tests, ← c .finding2 .ensures, c .before .if2 .left, ← c .before .before .is-good-data .ensures, c .before .before .before .if1 .taken, ← c .before .before .before .before .is-good-status .ensures))
-    (λ c. simp (tests, ← c .finding3 .ensures, c .before .if1 .left, ← c .before .before .is-good-status .ensures)))
+    (λ c. simp (tests, c .finding-place .ensures, c .before .bad-place .ensures, c .before .before .if1 .taken, ← c .before .before .before .is-good-status .ensures))
+    (λ c. simp (tests, ← c .finding .ensures, c .before .if1 .left, ← c .before .before .is-good-status .ensures)))

@@ -7,13 +7,14 @@ use Rattle.table.proofs.onward.Tie as tie
 
 returns : tie.Need-returns
 returns c =
-    let e = c .before .report .ensures in
-    let f = c .before .before .answer-of .ensures in
-    (simp (e, f), refl)
+    let e = c .before .report-place .ensures in
+    let f = c .before .before .place-told .ensures in
+    let g = c .before .before .before .answer-of .ensures in
+    (simp (e, f, g), refl)
 
 pub onward-spec : {M : Type 1} → statement M
 onward-spec =
     tie.close
     (tie.spec
-    (λ c κs. search needs) (λ c κs. search needs)
+    (λ c κs. search needs) (λ c κs. search needs) (λ c κs. search needs)
     returns)

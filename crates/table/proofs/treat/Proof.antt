@@ -1,17 +1,15 @@
 -- `table::treat` meets its contract: a walk of its MIR. In each turn of the loop the table and the output are lent again to `one`, for two lifetimes that are made for the call, and come back (`Again.antt`). What the loop keeps is `Turns.antt`'s `Turn`.
 -- Assumes nothing.
-use Rattle.stream.proofs.RunLoop.{reports}
 use Rattle.ground.proofs.Walk.{_≡_, refl, sym, subst, ℕ, Bool, true, false, [], _∷_, List, length, Holds, URA, fullShare, named, erased, w64, tyInt, tyBool, Val, WT, hasTy, vbool, SProp, ent, emp, via, fst∗, Lft, Share, GName, Fml, ftrue, fsep, fat, froom, fdies, flft, Memory, Routine, Heap, Out, Env, afterSeq, afterBlock, afterTurn, Calls, Loops, Wp, atReturn, WpFn, Tables, Atoms, Fun, givenOf, tables, tablesOf, Given, Item, ‵, raw, given, some, later, _⊛_, ⋆, Sq, anyQ, atRet, runs, _$_, _∵_, !, qed, by, move, keep, drop, use0, use1, use2, use3, split, join, pick, learn, rewrite, fsplit, fjoin, suffices, frame, await, done, look, init, store, forget, stop, hop, fld, from, load, addr, of-opd, and-then, no-more, assigns, land, land-last, first, blocks, loops, Below, again, stays, leaves-loop, exec, returns, enter, alloc1, alloc0, params1, pass1, pass0, free1, free0, agg, whole, sub, look-in, lft-new, lft-end, FmC, fmOf, WpFn-mono, owns, Is, u32, RefT, sliceVal, MutSlice, ShrSlice, Room, slice-vals, mut-slice-tells, shr-slice-tells, shr-slice-copy, finally, owned, nothing, onEntry, Meets, tripleOf, Triple, calls-at, calls-at-last, entered, cited, Stays, stay-none, stay-slice, stay-none-slice, walkOf, goes-none, goes-slice, goes-none-slice, Walks, ends-at, walked, walk-meets, yes, plain}
 use Rattle.channel.specs.declared.Record.{Record}
 use Rattle.table.specs.declared.Progress.{Progress}
 use Rattle.table.specs.declared.Job.{Job}
 use Rattle.stream.proofs.Done.Laws as TD′
 use Rattle.ground.specs.Store.{atStart}
-use Rattle.stream.specs.Report.{reported}
 use Rattle.stream.specs.Run.{Ran}
 use Rattle.table.specs.Table.{tableAfter}
 use Rattle.stream.specs.declared.Done.{Done}
-use Rattle.table.specs.Job.{asked, tableStep}
+use Rattle.table.specs.Job.{asked, askedReport, tableStep}
 use Rattle.table.specs.Next.{reportAfterCall}
 use Rattle.table.proofs.Job.Laws as TJ′
 use Rattle.table.proofs.Progress.Laws as TP′
@@ -83,10 +81,10 @@ module _ {M : Type 1} (𝓤 : URA M) (H : Heap 𝓤) (A : Atoms 𝓤) (W : Given
   asked-for = asked j (length out) tb (w .now)
 
   abbrev Said : State → Type 0
-  Said s = (s .p .done ≡ reported asked-for) × (s .tb ≡ tableAfter asked-for) × (s .out ≡ atStart (asked-for .sends) out)
+  Said s = (s .p .done ≡ askedReport j (w .now) asked-for) × (s .tb ≡ tableAfter asked-for) × (s .out ≡ atStart (asked-for .sends) out)
 
   said : (t : Turn (w .now) j tb out) → t .st .p .more ≡ false → Said (t .st)
-  said t e = let d = ended (w .now) j tb out t e in (reports d, d .leaves, d .holds)
+  said t e = let d = ended (w .now) j tb out t e in (d .1, d .0 .leaves, d .0 .holds)
 
   exits : (s : State) → Is P (s .p) (valsP (s .p)) → length (s .tb) ≡ length tb → length (s .out) ≡ length out → Said s
       → ent 𝓤 (⋆ 𝓤 H A (‵ (flft κ₀ q₀) ∷ ‵ (flft κ₁ q₁) ∷ ‵ (flft κ₂ q₂) ∷ ‵ Own₀ ∷ ‵ (Own₁ (s .tb)) ∷ ‵ (Own₂ (s .out)) ∷ [])) (Post (valD (s .p .done)))

@@ -6,37 +6,51 @@ use Rattle.text.proofs.LineLaws.{line-length, line-stored}
 use Rattle.text.proofs.put_line.Statement.{statement}
 use Rattle.text.proofs.put_line.Tie as tie
 
+put-place-requires : tie.Need-put-place-requires
+put-place-requires c κs =
+    let e = c .before .before .before in
+    let d = e .before .before .before .before in
+    let s = d .before .before .before .before in
+    let p = simp length-set at (e .spell2 .kept .1 .1 .1 .0) in
+    (s .pre .2, omega (arith, p, d .spell .kept .1 .1 .1 .0))
+
 put-hex-fields-requires : tie.Need-put-hex-fields-requires
 put-hex-fields-requires c κs =
-    let p = simp length-set at (c .before .before .before .spell2 .kept .1 .1 .1 .0) in
-    omega (arith, p, c .before .before .before .before .before .before .before .spell .kept .1 .1 .1 .0)
+    let g = c .before .before .before in
+    let e = g .before .before .before .before in
+    let d = e .before .before .before .before in
+    let p = simp length-set at (e .spell2 .kept .1 .1 .1 .0) in
+    omega (arith, p, d .spell .kept .1 .1 .1 .0, g .put-place .kept .1 .1 .0, g .put-place .ensures .0)
 
 slice-write-out : tie.Need-slice-write-out-2
 slice-write-out c =
-    let d = c .before .before in
-    let e = d .before .before .before .before in
+    let h = c .before .before in
+    let g = h .before .before .before .before in
+    let e = g .before .before .before .before in
+    let d = e .before .before .before .before in
     let p = simp length-set at (e .spell2 .kept .1 .1 .1 .0) in
-    let q = e .before .before .before .before .spell .kept .1 .1 .1 .0 in
-    omega (arith, p, q, d .put-hex-fields .ensures .0, d .put-hex-fields .kept .1 .0)
+    omega (arith, p, d .spell .kept .1 .1 .1 .0, g .put-place .kept .1 .1 .0, g .put-place .ensures .0, h .put-hex-fields .ensures .0, h .put-hex-fields .kept .1 .0)
 
 same-length : tie.Need-same-length
 same-length c =
-    let d = c .before .before in
-    let e = d .before .before .before .before in
+    let h = c .before .before in
+    let g = h .before .before .before .before in
+    let e = g .before .before .before .before in
+    let d = e .before .before .before .before in
     let p = simp length-set at (e .spell2 .kept .1 .1 .1 .0) in
-    let q = e .before .before .before .before .spell .kept .1 .1 .1 .0 in
-    simp length-set (omega (arith, p, q, d .put-hex-fields .kept .1 .0))
+    simp length-set (omega (arith, p, d .spell .kept .1 .1 .1 .0, g .put-place .kept .1 .1 .0, h .put-hex-fields .kept .1 .0))
 
 returns : tie.Need-returns
 returns c =
     let f = c .before .before .put-hex-fields .ensures in
-    let e = c .before .before .before .before .before .before in
+    let g = c .before .before .before .before .before .before in
+    let e = g .before .before .before .before in
     let d = e .before .before .before .before in
     let s = d .before .before .before .before in
     let a = s .args in (
-      omega (arith, f .0, s .pre .0, s .pre .1, line-length (a .answer) (a .read) (a .words .now)),
-      rw (f .1, f .0, e .spell2 .ensures, d .spell .ensures)
-          (line-stored (a .out .now) (a .to) (a .answer) (a .read) _ _ (a .words .now) (s .pre .0) (s .pre .1)),
+      omega (arith, f .0, g .put-place .ensures .0, s .pre .0, s .pre .1, s .pre .2, line-length (a .answer) (a .read) (a .place) (a .words .now)),
+      rw (f .1, f .0, g .put-place .ensures .1, g .put-place .ensures .0, e .spell2 .ensures, d .spell .ensures)
+          (line-stored (a .out .now) (a .to) (a .answer) (a .read) (a .place) _ _ _ (a .words .now) (s .pre .0) (s .pre .1) (s .pre .2)),
     )
 
 pub put-line-spec : {M : Type 1} → statement M
@@ -46,6 +60,7 @@ put-line-spec =
     (λ c κs. search needs) (λ c. search needs) (λ c. search needs) (λ c. search needs) (λ c. search needs)
     (λ c κs. (omega arith, omega arith, simp length-set (omega arith)))
     (λ c. search needs) (λ c. search needs) (λ c. search needs)
+    put-place-requires
     put-hex-fields-requires
     slice-write-out
     (λ c. search needs)

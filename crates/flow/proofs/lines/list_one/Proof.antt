@@ -46,7 +46,7 @@ words u =
     (up-few (a .«record») (drop (a .past .read) (now (a .words)))) (calls u)
 
 lines : (l : tie.After-line) → let u = calling l in let a = entry u .args in let p = next (now (a .words)) (a .past) in
-    Lined (a .past) p (now (a .text)) (a .«record») (u .up .result) (four u) (packetUp (a .«record») p) (l .line .result) (l .line .last .1 .1 .1 .0)
+    Lined (a .past) p (now (a .text)) (a .«record») (u .up .result) (four u) (packetUp (a .«record») p) (l .line .result) (l .line .last .1 .1 .1 .1 .0)
 lines l =
     let u = calling l in
     let a = entry u .args in

@@ -1,12 +1,13 @@
 -- `flow::lines::list_some` meets its contract. The loop's invariant: what was done, and then the run from here, is the whole
 -- run, and the table is a whole one. The measure is the words left. Assumes nothing.
-use Prim.Native.Nat.{_-_}
-use mathlib.Core.Path.{_≡_, _∙_}
+use Prim.Native.Nat.{ℕ, _-_}
+use mathlib.Core.Path.{_≡_, sym, ap, _∙_}
 use mathlib.Core.Logic.{inl, inr, ⊎-elim}
 use native.Mathlib.Omega.{arith}
 use borrow.Author.Needs.{needs}
 use denote.Ref.{now}
 use lib.ListN.{length}
+use Rattle.stream.specs.Report.{counting}
 use Rattle.stream.proofs.RunLoop.{finish, start}
 use Rattle.channel.specs.Record.{wholeTable}
 use Rattle.flow.specs.Listing.{lineUp, listUp, runLines}
@@ -51,8 +52,11 @@ turned j =
 returns : tie.Need-returns Inv-loop μ-loop
 unfolding runLines
 returns c =
-    let s = entry (calling (c .before .before) .before .before .before .before .before .before .before) in
-    run-told lineUp listUp list-near list-inside list-own list-still _ _ _ _ _ _ _ _ (whole s) (turned (c .before .before) .1 (c .if2 .taken))
+    let j = c .before .before .before in
+    let s = entry (calling j .before .before .before .before .before .before .before) in
+    let z = run-told lineUp listUp list-near list-inside list-own list-still _ _ _ _ _ _ _ _ (whole s) (turned j .1 (c .before .if2 .taken)) in
+    let d = calling j .list-one .result .done in
+    (c .report2 .ensures ∙ ap (λ (i : ℕ). counting (d .answer) i (d .written)) (sym (c .before .if2 .taken)) ∙ z .0, z .1)
 
 loop-less : tie.Need-loop-less Inv-loop μ-loop
 loop-less c = let z = turned (c .before .before) .0 (c .if2 .left) in omega (arith, z .0 .0 .read, z .1)
@@ -68,7 +72,7 @@ returns-2 c =
     let d = finish listUp list-near list-inside (a .table .records) (now (a .words)) (now (a .text)) (l .records) (l .text)
     (l .read) (l .written) (l .inv .0) (c .before .loop-test .left) in
     let z = run-told lineUp listUp list-near list-inside list-own list-still _ _ _ _ _ _ _ _ (whole (entry (c .before .before))) d in
-    (c .report2 .ensures ∙ z .0, z .1)
+    (c .report3 .ensures ∙ z .0, z .1)
 
 pub list-some-spec : {M : Type 1} → statement M
 list-some-spec =
@@ -81,7 +85,7 @@ list-some-spec =
     (λ c. c .before .record-place .ensures .1)
     (λ c κs. search needs) (λ c. search needs)
     (λ c. c .before .before .before .before .before .before .before .before .before .record-place .ensures .1)
-    (λ c. search needs)
+    (λ c κs. search needs) (λ c. search needs)
     returns
     loop-less
     loop-again

@@ -4,4 +4,4 @@ use Rattle.flow.proofs.lines.told.Statement.{statement}
 use Rattle.flow.proofs.lines.told.Tie as tie
 
 pub told-spec : {M : Type 1} → statement M
-told-spec = tie.close (tie.spec (λ c κs. search needs) (λ c. rw (c .report .ensures)))
+told-spec = tie.close (tie.spec (λ c κs. search needs) (λ c. rw (c .report-place .ensures)))

@@ -1,4 +1,4 @@
--- `flow::tally::counted` meets its contract: an answer past the counts is not counted. Assumes nothing.
+-- `flow::tally::counted` meets its contract: a sort past the counts is not counted. Assumes nothing.
 use mathlib.Core.Path.{_≡_, sym}
 use native.Mathlib.Omega.{arith}
 use borrow.Author.Needs.{needs}
@@ -9,8 +9,8 @@ use Rattle.flow.proofs.tally.counted.Tie as tie
 
 returns-2 : tie.Need-returns-2
 returns-2 c =
-    let l : length (c .before .args .counts) ≡ 8 = search needs in
-    sym (set-out (c .before .args .counts) (c .before .args .answer) _ (omega (arith, c .if1 .left)))
+    let l : length (c .before .args .counts) ≡ 15 = search needs in
+    sym (set-out (c .before .args .counts) (c .before .args .sort) _ (omega (arith, c .if1 .left)))
 
 pub counted-spec : {M : Type 1} → statement M
 counted-spec =

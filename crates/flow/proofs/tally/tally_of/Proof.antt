@@ -1,4 +1,4 @@
--- `flow::tally::tally_of` meets its contract. The loop's invariant: the answers before a place are counted, and those from
+-- `flow::tally::tally_of` meets its contract. The loop's invariant: the sorts before a place are counted, and those from
 -- there on are left. The measure is the words left. Assumes nothing.
 use Prim.Native.Nat.{_-_}
 use native.Mathlib.Omega.{arith}
@@ -18,7 +18,7 @@ abbrev μ-loop : tie.MeasureT-loop
 counted-requires : tie.Need-counted-requires Inv-loop μ-loop
 counted-requires c κs =
     let l = c .before .before .loop in
-    rw (l .inv .are) (omega (arith, tally-most (l .inv .before) (c .answer-at .result), l .inv .few, c .before .loop-test .taken, c .before .before .before .before .good .1 .0 .0))
+    rw (l .inv .are) (omega (arith, tally-most (l .inv .before) (c .sort-at .result), l .inv .few, c .before .loop-test .taken, c .before .before .before .before .good .1 .0 .0))
 
 add-at : tie.Need-add-at Inv-loop μ-loop
 add-at c =
@@ -44,7 +44,7 @@ loop-again c =
     let a = c .before .before .before .before .before .before .before .args in
     let l = c .before .before .before .before .before .loop in
     rw (c .size .ensures, c .before .before .counted .ensures)
-    (counts-more (a .down) (a .words .now) (l .counts) (l .at) (l .inv) (c .before .before .before .before .loop-test .taken) _ (c .before .before .before .answer-at .ensures))
+    (counts-more (a .down) (a .words .now) (l .counts) (l .at) (l .inv) (c .before .before .before .before .loop-test .taken) _ (c .before .before .before .sort-at .ensures))
 
 returns : tie.Need-returns Inv-loop μ-loop
 returns c = let l = c .before .loop in counts-end _ _ (l .counts) (l .at) (l .inv) (c .loop-test .left)

@@ -21,11 +21,11 @@ abbrev μ-loop : tie.MeasureT-loop
 
 returns : tie.Need-returns Inv-loop μ-loop
 returns c =
-    let a = c .before .before .before .before .before .before .before .before .before .before .before .args in
-    let l = c .before .before .before .before .before .before .before .before .loop in
-    let e = rw (c .before .before .before .before .before .before .report .ensures) at (c .before .before .before .before .down .ensures) in
-    let z = down-turn (now (a .words)) (now (a .out)) (l .out) (l .read) (l .written) (l .inv) (c .before .before .before .before .before .before .before .loop-test .taken) _ _ (e .0) (e .1) .1 (c .if1 .taken) in
-    (reports z, z .holds)
+    let a = c .before .before .before .before .before .before .before .before .before .before .before .before .args in
+    let l = c .before .before .before .before .before .before .before .before .before .loop in
+    let e = rw (c .before .before .before .before .before .before .before .report .ensures) at (c .before .before .before .before .before .down .ensures) in
+    let z = down-turn (now (a .words)) (now (a .out)) (l .out) (l .read) (l .written) (l .inv) (c .before .before .before .before .before .before .before .before .loop-test .taken) _ _ (e .0) (e .1) .1 (c .before .if1 .taken) in
+    (c .report2 .ensures ∙ rw (c .before .if1 .taken) at (reports z), z .holds)
 
 loop-less : tie.Need-loop-less Inv-loop μ-loop
 loop-less c =
@@ -48,7 +48,7 @@ returns-2 c =
     let a = c .before .before .before .before .before .args in
     let l = c .before .before .loop in
     let z = finish callDown down-near down-inside tt (now (a .words)) (now (a .out)) tt (l .out) (l .read) (l .written) (l .inv) (c .before .loop-test .left) in
-    (c .report2 .ensures ∙ reports z, z .holds)
+    (c .report3 .ensures ∙ reports z, z .holds)
 
 pub run-down-spec : {M : Type 1} → statement M
 run-down-spec =
@@ -57,7 +57,7 @@ run-down-spec =
     Inv-loop
     μ-loop
     (λ c. start callDown down-near down-inside tt _ _)
-    (λ c κs. search needs) (λ c κs. search needs) (λ c. search needs)
+    (λ c κs. search needs) (λ c κs. search needs) (λ c κs. search needs) (λ c. search needs)
     returns
     loop-less
     loop-again

@@ -23,10 +23,10 @@ send-requires c κs =
 
 returns : tie.Need-returns
 returns c =
-    let a = c .before .before .before .before .before .before .before .before .args in
-    let x = c .before .before .before .lowered in
+    let a = c .before .before .before .before .before .before .before .before .before .args in
+    let x = c .before .before .before .before .lowered in
     formless-comes (a .past) (now (a .packet)) (now (a .out)) _ _ _ _ (x .result)
-    (rw (c .before .before .before .before .before .word-at .ensures, c .before .before .before .before .word-at2 .ensures) at (x .ensures)) (c .before .if1 .taken) (c .refuse .ensures) refl
+    (rw (c .before .before .before .before .before .before .word-at .ensures, c .before .before .before .before .before .word-at2 .ensures) at (x .ensures)) (c .before .before .if1 .taken) (c .report .ensures) refl
 
 returns-2 : tie.Need-returns-2
 returns-2 c =
@@ -40,7 +40,7 @@ pub speak-down-spec : {M : Type 1} → statement M
 speak-down-spec =
     tie.close
     (tie.spec
-    (λ c κs. search needs) (λ c κs. search needs) (λ c κs. search needs) (λ c κs. search needs)
+    (λ c κs. search needs) (λ c κs. search needs) (λ c κs. search needs) (λ c. search needs) (λ c κs. search needs)
     send-requires
     returns
     (λ c. search needs)

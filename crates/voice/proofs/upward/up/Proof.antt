@@ -14,7 +14,7 @@ voice-up-requires : tie.Need-voice-up-requires
 voice-up-requires c κs =
     let a = c .before .before .before .before .before .before .args in
     let e = sym (ap messageType (c .before .before .before .word-at .ensures)) ∙ sym (c .before .before .message-type .ensures) ∙ c .before .if1 .taken in
-    omega (arith, voice-inside (now (a .words)) (a .past .read) e)
+    (omega (arith, voice-inside (now (a .words)) (a .past .read) e), sym (c .before .before .message-type .ensures) ∙ c .before .if1 .taken)
 
 onward-requires : tie.Need-onward-requires
 onward-requires c κs =

@@ -21,7 +21,7 @@ returns-2 c =
     let a = c .before .before .before .before .before .before .args in
     let s = c .before .before .before .before .check-voice1 in
     rw (c .stays .ensures, c .before .refuse .ensures)
-    (check-refused (a .past) (a .w) (a .«record») (now (a .out)) (s .result) (s .ensures) (c .before .before .if1 .left))
+    (check-refused (a .past) (a .w) (a .«record») (now (a .out)) (s .result) (c .before .before .before .before .before .before .pre .1) (s .ensures) (c .before .before .if1 .left))
 
 pub voice-up-spec : {M : Type 1} → statement M
 voice-up-spec =

@@ -7,7 +7,7 @@ use Rattle.filter.proofs.summary.Line.with.Statement.{statement}
 use Rattle.filter.proofs.summary.Line.with.Tie as tie
 
 abbrev Inv-loop : tie.InvT-loop
-Inv-loop more bytes₀ len₀ i₀ bytes len i = (len ≤ 2 ^ 8) × (i ≤ length more)
+Inv-loop more bytes₀ len₀ i₀ bytes len i = (len ≤ 2 ^ 9) × (i ≤ length more)
 
 abbrev μ-loop : tie.MeasureT-loop
 μ-loop more bytes₀ len₀ i₀ bytes len i = length more - i

@@ -1,4 +1,4 @@
--- `filter::summary::Line::with_refusals` keeps the line within its bytes. The measure is the answers to come. Assumes nothing.
+-- `filter::summary::Line::with_refusals` keeps the line within its bytes. The measure is the sorts to come. Assumes nothing.
 use Prim.Native.Nat.{_-_, _≤_, _^_}
 use mathlib.Core.Logic.{⊎-elim}
 use native.Mathlib.Omega.{arith}
@@ -7,10 +7,10 @@ use Rattle.filter.proofs.summary.Line.with_refusals.Statement.{statemen
 use Rattle.filter.proofs.summary.Line.with_refusals.Tie as tie
 
 abbrev Inv-loop : tie.InvT-loop
-Inv-loop counts line₀ first₀ answer₀ line first answer = (line .len ≤ 2 ^ 8) × (answer ≤ 8)
+Inv-loop counts line₀ first₀ sort₀ line first sort = (line .len ≤ 2 ^ 9) × (sort ≤ 15)
 
 abbrev μ-loop : tie.MeasureT-loop
-μ-loop counts line₀ first₀ answer₀ line first answer = 8 - answer
+μ-loop counts line₀ first₀ sort₀ line first sort = 15 - sort
 
 pub with-refusals-spec : {M : Type 1} → statement M
 with-refusals-spec =

@@ -7,7 +7,7 @@ use lib.Seq.{length-take-le}
 use Rattle.filter.proofs.summary.Line.write.Statement.{statement}
 use Rattle.filter.proofs.summary.Line.write.Tie as tie
 
-long : (c : tie.Start) → length (c .args .self .bytes) ≡ 256
+long : (c : tie.Start) → length (c .args .self .bytes) ≡ 512
 long c = search needs
 
 pub write-spec : {M : Type 1} → statement M

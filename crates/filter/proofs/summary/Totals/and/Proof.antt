@@ -5,10 +5,10 @@ use Rattle.filter.proofs.summary.Totals.and.Statement.{statement}
 use Rattle.filter.proofs.summary.Totals.and.Tie as tie
 
 abbrev Inv-loop : tie.InvT-loop
-Inv-loop self done more counts₀ i₀ counts i = i ≤ 8
+Inv-loop self done more counts₀ i₀ counts i = i ≤ 15
 
 abbrev μ-loop : tie.MeasureT-loop
-μ-loop self done more counts₀ i₀ counts i = 8 - i
+μ-loop self done more counts₀ i₀ counts i = 15 - i
 
 pub and-spec : {M : Type 1} → statement M
 and-spec =

@@ -1,0 +1,75 @@
+-- Laws of the check: when one field and when two are good; the fields of an exclusive by its count; and where the first
+-- bad field of a list stands. Assumes nothing.
+use Prim.Native.Nat.{ℕ, zero, suc, _+_, _<_}
+use mathlib.Core.Path.{_≡_, refl}
+use mathlib.Core.Bool.{Bool, true, false, cond, _&&_, _||_}
+use mathlib.Core.List.{List, [], _∷_, map}
+use native.Mathlib.Omega.{arith}
+use lib.ListN.{getD, take}
+use lib.Dec.{eqb, leb, ltb}
+use borrow.Author.Tests.{lt-leb, ne-eqb}
+use Rattle.ground.proofs.Cases.{by-bool}
+use Rattle.fields.specs.Check.{Field, FirstBad, badPlace, behind, good, seven}
+
+-- two fields, of which the tests are known
+pub both-good : (a b : Bool) → eqb (cond a (behind (cond b (behind 0) 1)) 1) 0 ≡ (a && b)
+both-good true true = refl
+both-good true false = refl
+both-good false b = refl
+
+pub one-good : (a : Bool) → eqb (cond a (behind 0) 1) 0 ≡ a
+one-good true = refl
+one-good false = refl
+
+-- the fields of an exclusive: the count first, and a byte behind it is not asked
+pub counted : (n a b c d e f : ℕ)
+    → badPlace (record { value = n; most = 6 } ∷ map seven (take n (a ∷ b ∷ c ∷ d ∷ e ∷ f ∷ [])))
+    ≡ cond (leb n 6) (behind (cond (ltb n 1 || leb a 127) (behind (cond (ltb n 2 || leb b 127)
+    (behind (cond (ltb n 3 || leb c 127) (behind (cond (ltb n 4 || leb d 127) (behind (cond (ltb n 5 || leb e 127)
+    (behind (cond (ltb n 6 || leb f 127) (behind 0) 1)) 1)) 1)) 1)) 1)) 1)) 1
+unfolding badPlace
+counted zero a b c d e f = refl
+counted (suc zero) a b c d e f = refl
+counted (suc (suc zero)) a b c d e f = refl
+counted (suc (suc (suc zero))) a b c d e f = refl
+counted (suc (suc (suc (suc zero)))) a b c d e f = refl
+counted (suc (suc (suc (suc (suc zero))))) a b c d e f = refl
+counted (suc (suc (suc (suc (suc (suc zero)))))) a b c d e f = refl
+counted (suc (suc (suc (suc (suc (suc (suc n))))))) a b c d e f =
+    rw (lt-leb (suc (suc (suc (suc (suc (suc (suc n))))))) 6 (omega arith))
+
+-- a place is that of the first bad field
+pub is-first : (fs : List Field) (k : ℕ) → badPlace fs ≡ suc k → FirstBad fs k
+unfolding badPlace
+is-first [] k e = absurd (omega (arith, e))
+is-first (f ∷ fs) k e = by-bool (good f) (λ g. later g k (badPlace fs) (λ j. is-first fs j) refl (rw g at e)) (λ g. here g (rw g at e))
+  where
+    here : good f ≡ false → 1 ≡ suc k → FirstBad (f ∷ fs) k
+    here g h = let z : k ≡ 0 = omega (arith, h) in rw z (g, λ i j. absurd (omega (arith, j)))
+
+    before : (j : ℕ) → good f ≡ true → FirstBad fs j → (i : ℕ) → i < suc j → good (getD (f ∷ fs) i (seven 0)) ≡ true
+    before j g h zero l = g
+    before j g h (suc i) l = h .1 i (omega (arith, l))
+
+    later : good f ≡ true → (k m : ℕ) → ((j : ℕ) → badPlace fs ≡ suc j → FirstBad fs j) → badPlace fs ≡ m
+        → behind m ≡ suc k → FirstBad (f ∷ fs) k
+    later g k zero ih p h = absurd (omega (arith, h))
+    later g k (suc j) ih p h =
+        let z : k ≡ suc j = omega (arith, rw (ne-eqb (suc j) 0 (λ q. omega (arith, q))) at h) in
+        let r = ih j p in
+        rw z (r .0, before j g r)
+
+-- and without one every field is good
+pub all-good : (fs : List Field) → badPlace fs ≡ 0 → (i : ℕ) → good (getD fs i (seven 0)) ≡ true
+unfolding badPlace
+all-good [] e i = refl
+all-good (f ∷ fs) e i = by-bool (good f) (λ g. go g i (λ p j. all-good fs p j) (rest (badPlace fs) refl (rw g at e))) (λ g. absurd (omega (arith, rw g at e)))
+  where
+    rest : (m : ℕ) → badPlace fs ≡ m → behind m ≡ 0 → badPlace fs ≡ 0
+    rest zero p h = p
+    rest (suc j) p h = absurd (omega (arith, rw (ne-eqb (suc j) 0 (λ q. omega (arith, q))) at h))
+
+    go : good f ≡ true → (i : ℕ) → (badPlace fs ≡ 0 → (j : ℕ) → good (getD fs j (seven 0)) ≡ true) → badPlace fs ≡ 0
+        → good (getD (f ∷ fs) i (seven 0)) ≡ true
+    go g zero ih p = g
+    go g (suc i) ih p = ih p i
