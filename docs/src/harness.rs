@@ -5,7 +5,7 @@
 mod packets;
 mod timing;
 
-use packets::{packet, Dice};
+use packets::{bad_packet, every_place, packet, Dice, Named};
 use reading::{empty, size, Done, Record, MISSING};
 
 #[link(name = "quernbrae", kind = "static")]
@@ -69,6 +69,24 @@ impl Function {
 
     fn runs(self) -> bool {
         matches!(self, RunUp | RunDown)
+    }
+
+    /// The types with checked fields that are not of the wrong protocol.
+    fn checked_types(self) -> &'static [u32] {
+        if self.goes_up() {
+            &[1, 2, 3]
+        } else {
+            &[1, 3, 4]
+        }
+    }
+
+    /// The types of which every place of bad data can be named; a run names none.
+    fn named_types(self) -> &'static [u32] {
+        if self.runs() {
+            &[]
+        } else {
+            self.checked_types()
+        }
     }
 }
 
@@ -167,6 +185,7 @@ struct Comparison {
     cases: usize,
     taken_up_again: usize,
     seen: [[usize; 11]; 4],
+    named: [Named; 4],
 }
 
 impl Comparison {
@@ -179,6 +198,7 @@ impl Comparison {
             cases: 0,
             taken_up_again: 0,
             seen: [[0; 11]; 4],
+            named: [(); 4].map(|_| Named::new()),
         }
     }
 
@@ -195,6 +215,9 @@ impl Comparison {
         self.hold(function, done, expected);
         self.cases += 1;
         self.seen[function as usize][expected.answer as usize] += 1;
+        if expected.answer == reading::BAD_DATA {
+            self.named[function as usize].count(self.case.words[0], expected.place);
+        }
         if function.runs() && expected.answer == reading::OUTPUT_SHORT {
             self.take_up_again(function);
         }
@@ -295,6 +318,19 @@ impl Comparison {
                 }
             }
         }
+    }
+
+    /// Every place of bad data, with all sorts of fields behind it and over records of all sorts.
+    fn every_bad_place(&mut self) {
+        for bad in every_place(&[1, 2, 3, 4]) {
+            for _ in 0..200 {
+                self.case.table.fill(spoiled_record(&mut self.dice));
+                let packet = bad_packet(&mut self.dice, bad);
+                self.single(Up, packet);
+                self.single(Down, packet);
+            }
+        }
+        self.case.table.fill(empty());
     }
 
     /// Records with every number at its edges, sound or not, under each sort of packet.
@@ -443,12 +479,9 @@ fn throw_words(dice: &mut Dice, function: Function, lent: &mut Lent) {
         (true, 1..=39) => 50 + dice.below(250),
         (true, _) => dice.pick(&[0, 1, 2, 3, 5, 8, 13, 21]),
     };
-    let voice = if function.goes_up() { 2 } else { 4 };
     lent.words.clear();
     for _ in 0..packets {
-        let any_type = dice.below(16) as u32;
-        let message_type = dice.pick(&[voice, any_type]);
-        let words = packet(dice, message_type);
+        let words = throw_packet(dice, function);
         lent.words.extend(&words[..size(words[0])]);
     }
     damage(dice, &mut lent.words);
@@ -457,6 +490,18 @@ fn throw_words(dice: &mut Dice, function: Function, lent: &mut Lent) {
         lent.words_len = dice.below(lent.words.len() + 1);
     }
     lent.words.extend([0; GUARDS].map(|_: u32| dice.word()));
+}
+
+/// A packet of a voice of the function or of any type; one in some has a bad field.
+fn throw_packet(dice: &mut Dice, function: Function) -> [u32; 4] {
+    if dice.one_in(16) {
+        let bad = dice.pick(&every_place(function.checked_types()));
+        return bad_packet(dice, bad);
+    }
+    let voice = if function.goes_up() { 2 } else { 4 };
+    let any_type = dice.below(16) as u32;
+    let message_type = dice.pick(&[voice, any_type]);
+    packet(dice, message_type)
 }
 
 fn damage(dice: &mut Dice, words: &mut [u32]) {
@@ -488,7 +533,7 @@ impl Comparison {
         self.compare(function);
     }
 
-    /// How often each answer was seen; fails if one that can occur was not.
+    /// How often each answer and each place was seen; fails if one that can occur was not.
     fn summary(&self) {
         println!("{} cases without a difference", self.cases);
         println!(
@@ -496,16 +541,26 @@ impl Comparison {
             self.taken_up_again
         );
         let mut complete = true;
-        for ((function, answers), seen) in FUNCTIONS.iter().zip(self.seen) {
+        for (function, answers) in FUNCTIONS {
+            let seen = self.seen[function as usize];
             let counts: Vec<_> = answers
                 .iter()
                 .map(|n| format!("{}: {}", n, seen[*n]))
                 .collect();
             println!("{:?} answered {}", function, counts.join(", "));
             complete &= answers.iter().all(|answer| seen[*answer] > 0);
+            let named = &self.named[function as usize];
+            for message_type in function.named_types() {
+                let times = named.of_type(*message_type);
+                println!(
+                    "{:?} named places of type {}: {:?}",
+                    function, message_type, times
+                );
+            }
+            complete &= named.all_of(function.named_types());
         }
         if !complete {
-            println!("an answer that can occur was never seen");
+            println!("an answer or a place that can occur was never seen");
             std::process::exit(1);
         }
     }
@@ -534,6 +589,7 @@ fn compare_all(random_cases: usize) {
     comparison.every_first_word();
     comparison.every_midi_1_voice();
     comparison.every_midi_2_voice();
+    comparison.every_bad_place();
     comparison.every_record();
     let pool = Pool::new(&mut comparison.dice);
     for _ in 0..random_cases {

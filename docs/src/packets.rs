@@ -134,3 +134,114 @@ fn voice_2(dice: &mut Dice, thrown: u32, second: &mut u32) -> u32 {
         _ => head | data(dice) << 8 | low,
     }
 }
+
+/// How many checked fields the messages of a type and status have, so at how many places they can
+/// be bad.
+fn places(message_type: u32, status: u32) -> u32 {
+    match (message_type, status) {
+        (1, 0xF) => 2,
+        (2, 0xC | 0xD) => 1,
+        (2, 0x8..=0xE) => 2,
+        (3, 0x0..=0x3) => 7,
+        (4, 0x2..=0x5) => 2,
+        (4, 0xC) => 3,
+        (4, 0x7 | 0xD | 0xE) => 0,
+        (4, _) => 1,
+        _ => 0,
+    }
+}
+
+/// A place of bad data: the type and the status of the message, and the field, from 1.
+#[derive(Clone, Copy)]
+pub struct BadField {
+    message_type: u32,
+    status: u32,
+    place: u32,
+}
+
+/// Every place at which the messages of these types can be bad.
+pub fn every_place(types: &[u32]) -> Vec<BadField> {
+    let mut all = vec![];
+    for message_type in types.iter().copied() {
+        for status in 0..16 {
+            all.extend((1..=places(message_type, status)).map(|place| BadField {
+                message_type,
+                status,
+                place,
+            }));
+        }
+    }
+    all
+}
+
+// The highest bits of the checked fields in packet order, of the first two words as one number.
+// What makes a count bad is not one bit.
+const OF_BYTES: [u64; 2] = [1 << 47, 1 << 39];
+const OF_EXCLUSIVE: [u64; 7] = [0, 1 << 47, 1 << 39, 1 << 31, 1 << 23, 1 << 15, 1 << 7];
+const OF_PROGRAM: [u64; 3] = [1 << 31, 1 << 15, 1 << 7];
+
+/// A packet that is bad at this place and at none before it; behind it stands whatever was thrown.
+pub fn bad_packet(dice: &mut Dice, bad: BadField) -> [u32; 4] {
+    let mut words = [0; 4].map(|_: u32| dice.word());
+    let (keep, head) = bad_head(dice, bad);
+    words[0] = words[0] & keep | head | bad.message_type << 28 | bad.status << 20;
+    let fields = match (bad.message_type, bad.status) {
+        (3, _) => &OF_EXCLUSIVE[..bad.place as usize],
+        (4, 0xC) => &OF_PROGRAM[..bad.place as usize],
+        _ => &OF_BYTES[..bad.place as usize],
+    };
+    let both = u64::from(words[0]) << 32 | u64::from(words[1]);
+    let both = both & !fields.iter().sum::<u64>() | fields[fields.len() - 1];
+    words[0] = (both >> 32) as u32;
+    words[1] = both as u32;
+    words
+}
+
+/// The bits of a first word that may be thrown, and others that give the message such a field.
+fn bad_head(dice: &mut Dice, bad: BadField) -> (u32, u32) {
+    let place = bad.place as usize;
+    let count = |count: usize| (0x0F00_FFFF, (count as u32) << 16);
+    match (bad.message_type, place) {
+        (1, 1) => (0x0F00_FFFF, dice.pick(&[0x1_0000, 0x2_0000, 0x3_0000])),
+        (1, _) => (0x0F00_FFFF, 0x2_0000),
+        (3, 1) => count(7 + dice.below(9)),
+        (3, _) => count(place - 1 + dice.below(8 - place)),
+        (4, 2..) if bad.status == 0xC => (0x0F0F_FFFF, 1),
+        _ => (0x0F0F_FFFF, 0),
+    }
+}
+
+/// How often each place of bad data was named, for each type and status.
+pub struct Named([[usize; 8]; 256]);
+
+impl Named {
+    pub fn new() -> Named {
+        Named([[0; 8]; 256])
+    }
+
+    /// Counts the place that was named for the packet with this first word.
+    pub fn count(&mut self, first: u32, place: u32) {
+        let (message_type, status) = (first >> 28, first >> 20 & 15);
+        assert!((1..=places(message_type, status)).contains(&place));
+        self.0[(message_type << 4 | status) as usize][place as usize] += 1;
+    }
+
+    fn times(&self, bad: &BadField) -> usize {
+        self.0[(bad.message_type << 4 | bad.status) as usize][bad.place as usize]
+    }
+
+    /// Every place at which the messages of these types can be bad was named.
+    pub fn all_of(&self, types: &[u32]) -> bool {
+        every_place(types).iter().all(|bad| self.times(bad) > 0)
+    }
+
+    /// How often each place of a type was named, from the first on.
+    pub fn of_type(&self, message_type: u32) -> Vec<usize> {
+        let mut sums = vec![];
+        for bad in every_place(&[message_type]) {
+            sums.resize(sums.len().max(bad.place as usize), 0);
+            sums[bad.place as usize - 1] += self.times(&bad);
+        }
+        sums
+    }
+}

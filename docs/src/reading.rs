@@ -38,11 +38,13 @@ pub struct Record {
     pub data_high: u8,
 }
 
-/// The answer of a call or of a run, and the words it read and wrote.
+/// The answer of a call or of a run, and the words it read and wrote. With bad data the place says
+/// which checked field is the first bad one, counted from 1; with every other answer it is 0.
 #[repr(C)]
 #[derive(Clone, Copy, Debug, PartialEq, Eq)]
 pub struct Done {
     pub answer: u32,
+    pub place: u32,
     pub read: usize,
     pub written: usize,
 }
@@ -151,6 +153,7 @@ static SCALED_7_TO_32: [u32; 128] = every_7_bit_value(32);
 fn stopped(answer: u32) -> Done {
     Done {
         answer,
+        place: 0,
         read: 0,
         written: 0,
     }
@@ -159,8 +162,45 @@ fn stopped(answer: u32) -> Done {
 fn refused(answer: u32, read: usize) -> Done {
     Done {
         answer,
+        place: 0,
         read,
         written: 0,
+    }
+}
+
+/// Refuses a packet that is known to have a bad field. Few packets have one, so its place is looked
+/// for here and nowhere before.
+#[cold]
+fn bad_data(packet: &[u32]) -> Done {
+    Done {
+        place: first_bad_field(packet),
+        ..refused(BAD_DATA, packet.len())
+    }
+}
+
+fn first_bad_field(packet: &[u32]) -> u32 {
+    match *packet {
+        [first, second] if first >> 28 == 3 => first_bad_of_exclusive(first, second),
+        [first, second] if first >> 20 & 15 == 0xC => first_bad_of_program(second),
+        [first, ..] if first & 0x8000 != 0 => 1,
+        _ => 2,
+    }
+}
+
+fn first_bad_of_exclusive(first: u32, second: u32) -> u32 {
+    if first >> 16 & 15 > 6 {
+        1
+    } else {
+        2 + bad_payload(first, second).leading_zeros() / 8
+    }
+}
+
+/// The bank bytes come behind the program, and only where the bank flag is set can they be bad.
+fn first_bad_of_program(second: u32) -> u32 {
+    match second {
+        0x8000_0000.. => 1,
+        _ if second & 0x8000 != 0 => 2,
+        _ => 3,
     }
 }
 
@@ -173,6 +213,7 @@ fn send<const COUNT: usize>(read: usize, words: [u32; COUNT], out: &mut [u32]) -
     }
     Done {
         answer: SENT,
+        place: 0,
         read,
         written: COUNT,
     }
@@ -205,10 +246,10 @@ fn other_type(words: &[u32], out: &mut [u32]) -> Done {
 
 #[inline(always)]
 fn unchanged<const COUNT: usize>(answer: u32, packet: [u32; COUNT], out: &mut [u32]) -> Done {
-    if answer == SENT {
-        send(COUNT, packet, out)
-    } else {
-        refused(answer, COUNT)
+    match answer {
+        SENT => send(COUNT, packet, out),
+        BAD_DATA => bad_data(&packet),
+        _ => refused(answer, COUNT),
     }
 }
 
@@ -242,18 +283,19 @@ fn check_two_words(first: u32, second: u32) -> u32 {
     if first >> 20 & 15 > 3 {
         return BAD_STATUS;
     }
-    let count = first >> 16 & 15;
-    if count > 6 {
-        return BAD_DATA;
-    }
-    // The payload stands at the top, so the first `count` bytes are the upper ones.
-    let payload = u64::from(first & 0xFFFF) << 48 | u64::from(second) << 16;
-    let counted = !(u64::MAX >> (8 * count));
-    if payload & counted & 0x8080_8080_8080_8080 == 0 {
-        SENT
-    } else {
+    if first >> 16 & 15 > 6 || bad_payload(first, second) != 0 {
         BAD_DATA
+    } else {
+        SENT
     }
+}
+
+/// The highest bit of each payload byte that is counted and bad, for a count of 6 at most.
+/// The payload stands at the top, so the counted bytes are the upper ones.
+fn bad_payload(first: u32, second: u32) -> u64 {
+    let payload = u64::from(first & 0xFFFF) << 48 | u64::from(second) << 16;
+    let counted = !(u64::MAX >> (8 * (first >> 16 & 15)));
+    payload & counted & 0x8080_8080_8080_8080
 }
 
 fn check_four_words(first: u32) -> u32 {
@@ -307,6 +349,7 @@ pub fn run_down(words: &[u32], out: &mut [u32]) -> Done {
 fn run(words: &[u32], out: &mut [u32], mut call: impl FnMut(&[u32], &mut [u32]) -> Done) -> Done {
     let mut total = Done {
         answer: SENT,
+        place: 0,
         read: 0,
         written: 0,
     };
@@ -340,7 +383,7 @@ fn up_voice(word: u32, record: &mut Record, out: &mut [u32]) -> Done {
         _ => return refused(BAD_STATUS, 1),
     };
     if word & data_bits != 0 {
-        return refused(BAD_DATA, 1);
+        return bad_data(&[word]);
     }
     if !record.sound() {
         return stopped(NOT_SOUND);
@@ -454,7 +497,7 @@ fn down_voice(first: u32, second: u32, out: &mut [u32]) -> Done {
         return refused(BAD_STATUS, 2);
     }
     if !data_in_range(first, second) {
-        return refused(BAD_DATA, 2);
+        return bad_data(&[first, second]);
     }
     let index = first >> 8 & 127;
     let (high_7, high_14) = (second >> 25, second >> 18);
@@ -527,6 +570,9 @@ pub fn listing(bytes: &[u8]) -> Vec<u8> {
             break;
         }
         text += &format!("{} {}", done.answer, done.read);
+        if done.answer == BAD_DATA {
+            text += &format!(" {}", done.place);
+        }
         for word in &out[..done.written] {
             text += &format!(" {:08X}", word);
         }

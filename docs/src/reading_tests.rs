@@ -11,6 +11,7 @@ fn called(call: impl FnOnce(&mut [u32]) -> Done) -> (u32, usize, Vec<u32>) {
     let mut out = [UNTOUCHED; 6];
     let done = call(&mut out);
     assert!(out[done.written..].iter().all(|word| *word == UNTOUCHED));
+    assert_eq!(done.place > 0, done.answer == BAD_DATA);
     (done.answer, done.read, out[..done.written].to_vec())
 }
 
@@ -177,6 +178,17 @@ fn listings() {
         text(&bytes_of(&[0xF123ABCD, 1, 2, 3])),
         "0 4 F123ABCD 00000001 00000002 00000003\n"
     );
+}
+
+#[test]
+fn listings_tell_the_place_of_bad_data_alone() {
+    let stream = [
+        0x20903C80, 0x20908080, 0x10F20080, 0x30070000, 0, 0x30061122, 0x33445580, 0x20700080,
+        0x40908000, 0, 0x60000080,
+    ];
+    let text = listing(&bytes_of(&stream));
+    let lines = "7 1 2\n7 1 1\n7 1 2\n7 2 1\n7 2 7\n6 1\n5 2\n4 1\n";
+    assert_eq!(String::from_utf8(text).unwrap(), lines);
 }
 
 #[test]
@@ -671,6 +683,155 @@ fn status_and_data_of_midi_2_voices() {
     }
 }
 
+/// The refusal of a packet of `read` words that is bad at a place.
+fn bad(place: u32, read: usize) -> Done {
+    Done {
+        answer: BAD_DATA,
+        place,
+        read,
+        written: 0,
+    }
+}
+
+#[test]
+fn every_place_of_system_messages() {
+    for (word, place) in [
+        (0x10F18000, 1),
+        (0x10F180FF, 1),
+        (0x10F38000, 1),
+        (0x10F28000, 1),
+        (0x10F28080, 1),
+        (0x10F20080, 2),
+        (0x1FF27FFF, 2),
+    ] {
+        assert_eq!(up(&[word], &mut fresh(), &mut []), bad(place, 1));
+        assert_eq!(down(&[word], &mut []), bad(place, 1));
+    }
+}
+
+#[test]
+fn every_place_of_midi_1_voices() {
+    for status in [0x8, 0x9, 0xA, 0xB, 0xE] {
+        for (data, place) in [(0x8000, 1), (0xFFFF, 1), (0x0080, 2), (0x7FFF, 2)] {
+            let word = 0x2503_0000 | status << 20 | data;
+            assert_eq!(up(&[word], &mut fresh(), &mut []), bad(place, 1));
+        }
+    }
+    for word in [0x20C08000, 0x20C0FFFF, 0x20D08080, 0x20D0FF00] {
+        assert_eq!(up(&[word], &mut fresh(), &mut []), bad(1, 1));
+    }
+}
+
+#[test]
+fn every_place_of_exclusives() {
+    for status in 0..4 {
+        for count in 7..16 {
+            let first = 0x3500_0000 | status << 20 | count << 16;
+            for packet in [[first, 0], [first | 0x8080, 0x8080_8080]] {
+                assert_eq!(up(&packet, &mut fresh(), &mut []), bad(1, 2));
+                assert_eq!(down(&packet, &mut []), bad(1, 2));
+            }
+        }
+        for (count, byte) in (1..7).flat_map(|count| (0..count).map(move |byte| (count, byte))) {
+            // That byte alone is bad, or it and all behind it are.
+            let alone = 0x8000_0000_0000_u64 >> (8 * byte);
+            let rest = 0x8080_8080_8080_u64 >> (8 * byte);
+            for payload in [alone, rest] {
+                let first = 0x3500_0000 | status << 20 | count << 16 | (payload >> 32) as u32;
+                let packet = [first, payload as u32];
+                assert_eq!(up(&packet, &mut fresh(), &mut []), bad(2 + byte, 2));
+                assert_eq!(down(&packet, &mut []), bad(2 + byte, 2));
+            }
+        }
+    }
+}
+
+#[test]
+fn every_place_of_midi_2_voices() {
+    for status in [0x0, 0x1, 0x6, 0x8, 0x9, 0xA, 0xB, 0xF] {
+        for data in [0x8000, 0xFFFF] {
+            assert_eq!(
+                down(&[0x4000_0000 | status << 20 | data, 0], &mut []),
+                bad(1, 2)
+            );
+        }
+    }
+    for status in 0x2..0x6 {
+        for (data, place) in [(0x8000, 1), (0xFFFF, 1), (0x0080, 2), (0x7FFF, 2)] {
+            let packet = [0x4503_0000 | status << 20 | data, u32::MAX];
+            assert_eq!(down(&packet, &mut []), bad(place, 2));
+        }
+    }
+    for (packet, place) in [
+        ([0x40C00000, 0x80000000], 1),
+        ([0x40C0FFFE, 0xFFFFFFFF], 1),
+        ([0x40C00001, 0x80000000], 1),
+        ([0x40C0FFFF, 0xFFFFFFFF], 1),
+        ([0x40C00001, 0x00008000], 2),
+        ([0x40C000FF, 0x7FFFFFFF], 2),
+        ([0x40C00001, 0x00000080], 3),
+        ([0x40C000FF, 0x7FFF7FFF], 3),
+    ] {
+        assert_eq!(down(&packet, &mut []), bad(place, 2));
+    }
+}
+
+/// The checked fields of a packet in the order of the packet, each with the most it may be.
+fn checked_fields(packet: &[u32; 2]) -> Vec<(u32, u32)> {
+    let byte = |number: usize| packet[number / 4] >> (24 - 8 * (number % 4)) & 255;
+    let bytes = |numbers: &[usize]| numbers.iter().map(|n| (byte(*n), 127)).collect();
+    let (message_type, status) = (packet[0] >> 28, packet[0] >> 20 & 15);
+    match (message_type, status) {
+        (1, _) if byte(1) == 0xF2 => bytes(&[2, 3]),
+        (1, _) if byte(1) == 0xF1 || byte(1) == 0xF3 => bytes(&[2]),
+        (2, 0xC | 0xD) => bytes(&[2]),
+        (2, _) => bytes(&[2, 3]),
+        (3, _) => {
+            let count = byte(1) & 15;
+            let payload = (2..8).map(|number| (byte(number), 127));
+            let counted = payload.take(count as usize);
+            std::iter::once((count, 6)).chain(counted).collect()
+        }
+        (4, 0xC) if packet[0] & 1 == 1 => bytes(&[4, 6, 7]),
+        (4, 0xC) => bytes(&[4]),
+        (4, 0x2..=0x5) => bytes(&[2, 3]),
+        (4, 0xD | 0xE) => vec![],
+        (4, _) => bytes(&[2]),
+        _ => vec![],
+    }
+}
+
+/// Holds the answer of a call to the list of checked fields, unless an earlier refusal stands.
+fn hold_to_the_list(packet: &[u32; 2], done: Done) {
+    if let CUT | RESERVED_TYPE | WRONG_PROTOCOL | BAD_STATUS = done.answer {
+        return;
+    }
+    let fields = checked_fields(packet);
+    let first_bad = fields.iter().position(|(value, most)| value > most);
+    let place = first_bad.map_or(0, |index| index as u32 + 1);
+    assert_eq!(done.place, place, "{:08X?}", packet);
+    assert_eq!(done.answer == BAD_DATA, place > 0, "{:08X?}", packet);
+}
+
+#[test]
+fn the_place_is_the_first_bad_one_of_the_list() {
+    const EDGES: [u32; 5] = [0, 0x80, 0x8000, 0x8080, 0x7F7F];
+    for head in 0..0x1_0000 {
+        for high in EDGES {
+            for low in EDGES {
+                let packet = [head << 16 | EDGES[(head % 5) as usize], high << 16 | low];
+                hold_to_the_list(&packet, up(&packet, &mut fresh(), &mut [0; 2]));
+                hold_to_the_list(&packet, down(&packet, &mut [0; 4]));
+            }
+        }
+        for first in EDGES {
+            let packet = [head << 16 | first, 0x7F80_807F];
+            hold_to_the_list(&packet, up(&packet, &mut fresh(), &mut [0; 2]));
+            hold_to_the_list(&packet, down(&packet, &mut [0; 4]));
+        }
+    }
+}
+
 /// The answer is 9 with any room below the need, and the need itself suffices.
 fn needs(need: usize, call: impl Fn(&mut [u32]) -> Done) {
     for room in 0..need {
@@ -724,7 +885,7 @@ fn a_short_output_leaves_the_record_and_comes_last() {
     assert_eq!(up(&[0x20B00003], &mut table, &mut []), refused(TAKEN_IN, 1));
     table[0].kind = 3;
     assert_eq!(up(&[0x20C00500], &mut table, &mut []), stopped(NOT_SOUND));
-    assert_eq!(up(&[0x20C08000], &mut table, &mut []), refused(BAD_DATA, 1));
+    assert_eq!(up(&[0x20C08000], &mut table, &mut []), bad(1, 1));
     assert_eq!(
         up(&[0x20F08000], &mut table, &mut []),
         refused(BAD_STATUS, 1)
@@ -738,7 +899,7 @@ fn a_short_output_leaves_the_record_and_comes_last() {
         refused(RESERVED_TYPE, 1)
     );
     assert_eq!(down(&[0x40600000, 0], &mut []), refused(NO_MIDI_1_FORM, 2));
-    assert_eq!(down(&[0x40608000, 0], &mut []), refused(BAD_DATA, 2));
+    assert_eq!(down(&[0x40608000, 0], &mut []), bad(1, 2));
     assert_eq!(down(&[0x40708000, 0], &mut []), refused(BAD_STATUS, 2));
 }
 
@@ -775,6 +936,7 @@ fn a_run_stops_and_reports_its_sums() {
         done,
         Done {
             answer: OUTPUT_SHORT,
+            place: 0,
             read: 1,
             written: 2
         }
@@ -785,6 +947,7 @@ fn a_run_stops_and_reports_its_sums() {
         done,
         Done {
             answer: OUTPUT_SHORT,
+            place: 0,
             read: 2,
             written: 1
         }
@@ -794,6 +957,7 @@ fn a_run_stops_and_reports_its_sums() {
         done,
         Done {
             answer: CUT,
+            place: 0,
             read: 2,
             written: 1
         }
@@ -811,6 +975,7 @@ fn a_run_taken_up_again_gives_the_whole() {
         all,
         Done {
             answer: SENT,
+            place: 0,
             read: 9,
             written: 9
         }

@@ -3,8 +3,8 @@
 
 mod packets;
 
-use packets::{packet, Dice, EDGE_VALUES};
-use reading::size;
+use packets::{bad_packet, every_place, packet, Dice, Named, EDGE_VALUES};
+use reading::{size, Done, Record, BAD_DATA};
 use std::path::Path;
 
 /// The words of one buffer of 64 KiB.
@@ -25,10 +25,12 @@ struct Plan {
     straddles: [(u32, usize); 3],
     cut_end: &'static [u8],
     output: fn(&[u8]) -> Vec<u8>,
-    /// Treats the packet at the start of the words, and gives its answer.
-    answer: fn(&[u32], &mut [reading::Record]) -> u32,
+    /// Treats the packet at the start of the words.
+    call: fn(&[u32], &mut [Record]) -> Done,
     /// The answers that must occur.
     answers: &'static [u32],
+    /// The types of which every place of bad data must be named.
+    checked: &'static [u32],
 }
 
 const EXAMPLES_UP: [u32; 25] = [
@@ -68,8 +70,9 @@ fn plans() -> [Plan; 3] {
         straddles: [(0xD, 1), (0xB, 2), (0x3, 1)],
         cut_end: &[0xB0, 0, 0, 0, 0, 0, 0, 0, 0x20],
         output: reading::listing,
-        answer: answer_up,
+        call: |words, table| reading::up(words, table, &mut [0; 4]),
         answers: &[0, 1, 4, 5, 6, 7],
+        checked: &[1, 2, 3],
     };
     let up = Plan {
         name: "up",
@@ -89,14 +92,11 @@ fn plans() -> [Plan; 3] {
         straddles: [(0x4, 1), (0xF, 3), (0xB, 2)],
         cut_end: &[0x40, 0x90, 0x3C, 0, 0x7F, 0xFF],
         output: reading::down_filter,
-        answer: |words, _| reading::down(words, &mut [0; 4]).answer,
+        call: |words, _| reading::down(words, &mut [0; 4]),
         answers: &[0, 2, 4, 5, 6, 7],
+        checked: &[1, 3, 4],
     };
     [listing, up, down]
-}
-
-fn answer_up(words: &[u32], table: &mut [reading::Record]) -> u32 {
-    reading::up(words, table, &mut [0; 4]).answer
 }
 
 fn push(dice: &mut Dice, message_type: u32, stream: &mut Vec<u32>) {
@@ -188,11 +188,16 @@ fn push_mixed(dice: &mut Dice, types: &[u32], stream: &mut Vec<u32>) {
     }
 }
 
-/// Examples, every case, then the random mix with a packet across each edge.
+/// Examples, every case, every place of bad data, then the random mix with a packet across each
+/// edge.
 fn whole_packets(plan: &Plan) -> Vec<u32> {
     let mut dice = Dice::new(plan.seed);
     let mut stream = plan.examples.to_vec();
     stream.extend((plan.every_case)(&mut dice));
+    for bad in every_place(plan.checked) {
+        let words = bad_packet(&mut dice, bad);
+        stream.extend(&words[..size(words[0])]);
+    }
     for (edge, (message_type, before)) in edges().zip(plan.straddles) {
         assert!(
             stream.len() + 8 < edge,
@@ -224,13 +229,17 @@ fn edges() -> impl Iterator<Item = usize> {
 /// Fails unless the stream has what the plan promises of it.
 fn check(plan: &Plan, stream: &[u32]) {
     let mut table = [reading::empty(); 256];
-    let (mut types, mut answers) = ([0; 16], [0; 11]);
+    let (mut types, mut answers, mut places) = ([0; 16], [0; 11], Named::new());
     let mut straddled = vec![];
     let mut place = 0;
     while place < stream.len() {
         let size = size(stream[place]);
         types[(stream[place] >> 28) as usize] += 1;
-        answers[(plan.answer)(&stream[place..], &mut table) as usize] += 1;
+        let done = (plan.call)(&stream[place..], &mut table);
+        answers[done.answer as usize] += 1;
+        if done.answer == BAD_DATA {
+            places.count(stream[place], done.place);
+        }
         if place / BUFFER != (place + size - 1) / BUFFER {
             straddled.push(size);
         }
@@ -241,11 +250,19 @@ fn check(plan: &Plan, stream: &[u32]) {
         .answers
         .iter()
         .all(|answer| answers[*answer as usize] > 0));
+    assert!(places.all_of(plan.checked));
     assert_eq!(straddled.len(), stream.len() / BUFFER);
     straddled.sort_unstable();
     assert_eq!(straddled, [2, 3, 4]);
     println!("{}: packets by type {:?}", plan.name, types);
     println!("{}: answers {:?}, and 3 at the end", plan.name, answers);
+    for message_type in plan.checked {
+        let named = places.of_type(*message_type);
+        println!(
+            "{}: bad places of type {} {:?}",
+            plan.name, message_type, named
+        );
+    }
 }
 
 fn write(plan: &Plan, folder: &Path) -> std::io::Result<()> {
