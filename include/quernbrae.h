@@ -25,7 +25,7 @@ enum {
     QUERNBRAE_RESERVED = 4,       /* reserved message type (2.1) */
     QUERNBRAE_WRONG_PROTOCOL = 5, /* MIDI 2.0 voice going up, MIDI 1.0 voice going down (2.1) */
     QUERNBRAE_BAD_STATUS = 6,     /* 2.2 */
-    QUERNBRAE_BAD_DATA = 7,       /* 2.3 */
+    QUERNBRAE_BAD_DATA = 7,       /* 2.3; the report tells the place */
     QUERNBRAE_NOT_SOUND = 8,      /* going up: the record of the packet's channel breaks 5.2 */
     QUERNBRAE_NO_ROOM = 9,        /* the output cannot hold what the packet sends (3.4) */
     QUERNBRAE_NO_TABLE = 10       /* going up: the table has more or fewer than 256 records */
@@ -53,6 +53,7 @@ typedef struct {
 /* What a call or a run reports. */
 typedef struct {
     uint32_t answer;
+    uint32_t place; /* after answer 7 that of the first bad field, from 1 (2.4); else 0 */
     size_t read;    /* words read */
     size_t written; /* words written, from the output's start */
 } quernbrae_done;

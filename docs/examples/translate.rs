@@ -14,6 +14,8 @@ struct Record {
 #[repr(C)]
 struct Done {
     answer: u32,
+    #[allow(dead_code)]
+    place: u32,
     read: usize,
     written: usize,
 }
