@@ -1,12 +1,15 @@
-//! Holds single calls and runs of the product's static library to the reading, or times both.
+//! Holds single calls, runs and questions of the product's static library to the reading, or times
+//! both.
 //! Usage: harness [CASES] with the number of random cases, which follow a million swept ones;
 //! or: harness time
 
 mod packets;
+mod tally;
 mod timing;
 
-use packets::{bad_packet, every_place, packet, Dice, Named};
-use reading::{empty, size, Done, Record, MISSING};
+use packets::{bad_packet, every_place, packet_about_keys, Dice, Named};
+use reading::{empty, keys_down, size, Done, Keys, Record, MISSING};
+use tally::{Asked, KeyVoices};
 
 #[link(name = "quernbrae", kind = "static")]
 extern "C" {
@@ -34,12 +37,19 @@ extern "C" {
         out: *mut u32,
         out_len: usize,
     ) -> Done;
+    fn quernbrae_keys_down(table: *const Record, records: usize, group: u8, channel: u8) -> Keys;
 }
 
 const DEFAULT_CASES: usize = 1_000_000;
 
 /// The longest table that is lent, and the records kept behind it.
 const TABLE_SPACE: usize = 512 + 8;
+
+/// Lengths of tables for the question, of which one is right.
+const LENGTHS: [usize; 9] = [0, 1, 16, 255, 256, 257, 272, 511, 512];
+
+/// Groups and channels at the edges of their range and of a byte.
+const EDGE_PLACES: [u8; 10] = [0, 1, 7, 14, 15, 16, 17, 128, 254, 255];
 
 /// Words behind the stream and behind the output that a call must leave alone.
 const GUARDS: usize = 16;
@@ -174,6 +184,12 @@ impl Lent {
             }
         }
     }
+
+    fn product_keys(&self, records: usize, group: u8, channel: u8) -> Keys {
+        let table = self.table[..records].as_ptr();
+        // So many records are there.
+        unsafe { quernbrae_keys_down(table, records, group, channel) }
+    }
 }
 
 /// The case in hand, a copy for either side, and what was seen so far.
@@ -186,6 +202,8 @@ struct Comparison {
     taken_up_again: usize,
     seen: [[usize; 11]; 4],
     named: [Named; 4],
+    key_voices: KeyVoices,
+    asked: Asked,
 }
 
 impl Comparison {
@@ -199,6 +217,8 @@ impl Comparison {
             taken_up_again: 0,
             seen: [[0; 11]; 4],
             named: [(); 4].map(|_| Named::new()),
+            key_voices: KeyVoices::new(),
+            asked: Asked::new(),
         }
     }
 
@@ -217,6 +237,11 @@ impl Comparison {
         self.seen[function as usize][expected.answer as usize] += 1;
         if expected.answer == reading::BAD_DATA {
             self.named[function as usize].count(self.case.words[0], expected.place);
+        }
+        if let (Up, Some(word)) = (function, self.case.words.first()) {
+            let own = self.case.own();
+            let rows = [self.case.table[own], self.reading.table[own]];
+            self.key_voices.count(*word, expected.answer, rows);
         }
         if function.runs() && expected.answer == reading::OUTPUT_SHORT {
             self.take_up_again(function);
@@ -243,6 +268,37 @@ impl Comparison {
         }
         self.hold(function, total, whole);
         self.taken_up_again += 1;
+    }
+
+    /// Asks both sides for the keys of a channel, over so many records of the tables as they are.
+    fn ask(&mut self, records: usize, group: u8, channel: u8) {
+        let keys = self.product.product_keys(records, group, channel);
+        let expected = keys_down(&self.reading.table[..records], group, channel);
+        let (product, reading) = (&self.product.table, &self.reading.table);
+        self.asked.count(expected);
+        if keys == expected && product == reading {
+            return;
+        }
+        println!("DIFFERENCE in question {}", self.asked.questions());
+        println!("records: {records}, group: {group}, channel: {channel}");
+        if let (0..=15, 0..=15) = (group, channel) {
+            let number = 16 * usize::from(group) + usize::from(channel);
+            println!("its record: {:X?}", reading[number]);
+        }
+        println!("product: {:?}\nreading: {:?}", keys, expected);
+        show_difference("record", &self.case.table, product, reading);
+        std::process::exit(1);
+    }
+
+    /// Asks over the table that a case left: for the channel of its first packet, for any channel,
+    /// and for edges, over any length.
+    fn ask_after(&mut self) {
+        for number in [self.case.own(), self.dice.below(256)] {
+            self.ask(256, (number / 16) as u8, (number % 16) as u8);
+        }
+        let records = self.dice.pick(&LENGTHS);
+        let (group, channel) = (self.dice.pick(&EDGE_PLACES), self.dice.pick(&EDGE_PLACES));
+        self.ask(records, group, channel);
     }
 
     fn hold(&self, function: Function, done: Done, expected: Done) {
@@ -287,8 +343,9 @@ impl Comparison {
 
     /// Every value of bits 31 to 16 of the first word, in both directions.
     fn every_first_word(&mut self) {
-        self.case.table.fill(empty());
         for head in 0..0x1_0000 {
+            let keys = throw_keys(&mut self.dice);
+            self.case.table.fill(Record { keys, ..empty() });
             let mut packet = [0; 4].map(|_: u32| self.dice.word());
             packet[0] = head << 16 | packet[0] & self.dice.pick(&[0x7F7F, 0xFFFF]);
             self.single(Up, packet);
@@ -302,6 +359,28 @@ impl Comparison {
             for data in 0..0x1_0000 {
                 self.case.table[0x21] = sound_record(&mut self.dice);
                 self.single(Up, [0x2201_0000 | status << 20 | data, 0, 0, 0]);
+            }
+        }
+        self.case.table.fill(empty());
+    }
+
+    /// Every key pressed and lifted in each way, and all keys lifted, over records of all sorts.
+    fn every_key_moved(&mut self) {
+        for key in 0..128 {
+            let note = |head: u32| head | key << 8;
+            let notes = [0x20900001, 0x2090007F, 0x20900000, 0x20800000, 0x20800040].map(note);
+            let controllers = [0x20B07800, 0x20B0797F, 0x20B07B01];
+            for word in notes.into_iter().chain(controllers) {
+                for _ in 0..50 {
+                    let record = match self.dice.below(4) {
+                        0 => spoiled_record(&mut self.dice),
+                        _ => sound_record(&mut self.dice),
+                    };
+                    let place = self.dice.word() & 0x0F0F_0000;
+                    self.case.table.fill(record);
+                    self.single(Up, [word | place, 0, 0, 0]);
+                    self.ask_after();
+                }
             }
         }
         self.case.table.fill(empty());
@@ -336,21 +415,15 @@ impl Comparison {
     /// Records with every number at its edges, sound or not, under each sort of packet.
     fn every_record(&mut self) {
         const EDGES: [u8; 5] = [0, 127, 128, 254, MISSING];
-        const WORDS: [u32; 9] = [
-            0x2F9F_3C40,
-            0x2FBF_0001,
-            0x2FBF_0602,
-            0x2FBF_2603,
-            0x2FBF_6204,
-            0x2FBF_6305,
-            0x2FBF_6406,
-            0x2FBF_6507,
-            0x2FCF_0800,
+        const WORDS: [u32; 13] = [
+            0x2F9F3C40, 0x2F8F4040, 0x2FBF7800, 0x2FBF7900, 0x2FBF7B00, 0x2FBF0001, 0x2FBF0602,
+            0x2FBF2603, 0x2FBF6204, 0x2FBF6305, 0x2FBF6406, 0x2FBF6507, 0x2FCF0800,
         ];
         for kind in [0, 1, 2, 3, 255, 256, 65535] {
             for numbers in 0..5_usize.pow(5) {
                 let number = |place: u32| EDGES[numbers / 5_usize.pow(place) % 5];
                 self.case.table[255] = Record {
+                    keys: throw_keys(&mut self.dice),
                     kind,
                     bank_high: number(0),
                     bank_low: number(1),
@@ -366,6 +439,69 @@ impl Comparison {
     }
 }
 
+/// Sweeps over the question.
+impl Comparison {
+    /// Every group with every channel over 256 records, and edges of both over other lengths.
+    fn every_channel_asked(&mut self) {
+        for record in &mut self.case.table {
+            *record = spoiled_record(&mut self.dice);
+        }
+        self.copy_case();
+        for group in 0..=255 {
+            for channel in 0..=255 {
+                self.ask(256, group, channel);
+            }
+        }
+        for records in LENGTHS {
+            for group in EDGE_PLACES {
+                for channel in EDGE_PLACES {
+                    self.ask(records, group, channel);
+                }
+            }
+        }
+    }
+
+    /// Each key alone, with others, as the lowest and as the highest, on channels of all groups.
+    fn every_key_asked(&mut self) {
+        for key in 0..128 {
+            let one = 1_u128 << key;
+            let (above, below) = (u128::MAX << key, u128::MAX >> (127 - key));
+            let [low, high] = throw_keys(&mut self.dice).map(u128::from);
+            let thrown = high << 64 | low;
+            let rows = [
+                0,
+                one,
+                !one,
+                above,
+                below,
+                one | above & thrown,
+                one | below & thrown,
+            ];
+            for row in rows {
+                let number = self.dice.below(256);
+                self.case.table[number].keys = [row as u64, (row >> 64) as u64];
+                self.copy_case();
+                self.ask(256, (number / 16) as u8, (number % 16) as u8);
+            }
+        }
+        self.case.table.fill(empty());
+    }
+}
+
+/// Keys of a channel: none, all, one, those of one half, or any.
+fn throw_keys(dice: &mut Dice) -> [u64; 2] {
+    let [low, high] = [(); 2].map(|_| u64::from(dice.word()) << 32 | u64::from(dice.word()));
+    match dice.below(8) {
+        0 => [0; 2],
+        1 => [u64::MAX; 2],
+        2 => [1 << (low % 64), 0],
+        3 => [0, 1 << (high % 64)],
+        4 => [low, 0],
+        5 => [0, high],
+        _ => [low, high],
+    }
+}
+
 fn number(dice: &mut Dice) -> u8 {
     match dice.below(4) {
         0 => MISSING,
@@ -376,6 +512,7 @@ fn number(dice: &mut Dice) -> u8 {
 
 fn sound_record(dice: &mut Dice) -> Record {
     let mut record = empty();
+    record.keys = throw_keys(dice);
     record.bank_high = number(dice);
     record.bank_low = number(dice);
     record.kind = dice.below(3) as u16;
@@ -501,7 +638,7 @@ fn throw_packet(dice: &mut Dice, function: Function) -> [u32; 4] {
     let voice = if function.goes_up() { 2 } else { 4 };
     let any_type = dice.below(16) as u32;
     let message_type = dice.pick(&[voice, any_type]);
-    packet(dice, message_type)
+    packet_about_keys(dice, message_type)
 }
 
 fn damage(dice: &mut Dice, words: &mut [u32]) {
@@ -531,6 +668,9 @@ impl Comparison {
         let filler = dice.word();
         self.case.set_room(room, filler);
         self.compare(function);
+        if function.goes_up() {
+            self.ask_after();
+        }
     }
 
     /// How often each answer and each place was seen; fails if one that can occur was not.
@@ -559,8 +699,9 @@ impl Comparison {
             }
             complete &= named.all_of(function.named_types());
         }
+        complete &= self.key_voices.summary() & self.asked.summary();
         if !complete {
-            println!("an answer or a place that can occur was never seen");
+            println!("something that can occur was never seen");
             std::process::exit(1);
         }
     }
@@ -588,9 +729,12 @@ fn compare_all(random_cases: usize) {
     let mut comparison = Comparison::new();
     comparison.every_first_word();
     comparison.every_midi_1_voice();
+    comparison.every_key_moved();
     comparison.every_midi_2_voice();
     comparison.every_bad_place();
     comparison.every_record();
+    comparison.every_channel_asked();
+    comparison.every_key_asked();
     let pool = Pool::new(&mut comparison.dice);
     for _ in 0..random_cases {
         comparison.random(&pool);

@@ -44,6 +44,9 @@ pub const EDGE_VALUES: [u32; 10] = [
 
 const EDGE_DATA: [u32; 8] = [0, 1, 63, 64, 65, 126, 127, 127];
 const RECORD_INDEXES: [u32; 12] = [0, 32, 6, 38, 38, 6, 96, 97, 98, 99, 100, 101];
+const EDGE_KEYS: [u32; 10] = [0, 1, 31, 32, 62, 63, 64, 65, 126, 127];
+/// Controllers that lift all keys, and their neighbours, which lift none.
+const KEY_INDEXES: [u32; 10] = [120, 120, 120, 123, 123, 123, 121, 119, 122, 124];
 const SYSTEM_STATUSES: [u32; 10] = [0xF1, 0xF2, 0xF3, 0xF6, 0xF8, 0xFA, 0xFB, 0xFC, 0xFE, 0xFF];
 
 /// A valid packet of a message type, in four words of which its size counts.
@@ -103,6 +106,31 @@ fn voice_1(dice: &mut Dice, thrown: u32) -> u32 {
         _ => data(dice),
     };
     place(dice, thrown) | status << 20 | index << 8 | last
+}
+
+/// A packet like those of `packet`, but half of the MIDI 1.0 voices are about keys.
+pub fn packet_about_keys(dice: &mut Dice, message_type: u32) -> [u32; 4] {
+    let mut words = packet(dice, message_type);
+    if message_type == 2 && dice.one_in(2) {
+        words[0] = 0x2000_0000 | voice_about_keys(dice);
+    }
+    words
+}
+
+fn voice_about_keys(dice: &mut Dice) -> u32 {
+    let any_key = dice.below(128) as u32;
+    let key = match dice.below(2) {
+        0 => dice.pick(&EDGE_KEYS),
+        _ => any_key,
+    };
+    let (status, first, second) = match dice.below(16) {
+        0..=7 => (0x9, key, data(dice).max(1)),
+        8..=10 => (0x9, key, 0),
+        11..=13 => (0x8, key, data(dice)),
+        _ => (0xB, dice.pick(&KEY_INDEXES), data(dice)),
+    };
+    let thrown = dice.word();
+    place(dice, thrown) | status << 20 | first << 8 | second
 }
 
 fn exclusive(dice: &mut Dice, thrown: u32, second: &mut u32) -> u32 {

@@ -1,5 +1,6 @@
 //! The translation of Universal MIDI Packets, from MIDI 1.0 up to MIDI 2.0 and back down.
-//! Read from the build specification and M2-104-UM 1.1.1, sections 7.2 to 7.7 and Appendix D.
+//! Read from the build specification, the requests that amend it, and M2-104-UM 1.1.1, sections 7.2
+//! to 7.7 and Appendix D.
 
 #[cfg(test)]
 #[path = "reading_tests.rs"]
@@ -18,6 +19,10 @@ pub const NOT_SOUND: u32 = 8;
 pub const OUTPUT_SHORT: u32 = 9;
 pub const NOT_256_RECORDS: u32 = 10;
 
+// The question of the keys has these two and 10.
+pub const ANSWERED: u32 = 0;
+pub const ABOVE_15: u32 = 24;
+
 /// The number of a record that is not there.
 pub const MISSING: u8 = 255;
 
@@ -26,10 +31,15 @@ pub const NONE: u16 = 0;
 pub const REGISTERED: u16 = 1;
 pub const ASSIGNABLE: u16 = 2;
 
+/// Stands for the lowest key where no key is down.
+pub const NO_KEY: u32 = 255;
+
 /// What is remembered of one channel of one group between two packets.
+/// Bit k of the first 64 keys is 1 if key k is down, and bit k of the others if key k + 64 is.
 #[repr(C)]
 #[derive(Clone, Copy, Debug, PartialEq, Eq)]
 pub struct Record {
+    pub keys: [u64; 2],
     pub kind: u16,
     pub bank_high: u8,
     pub bank_low: u8,
@@ -49,9 +59,19 @@ pub struct Done {
     pub written: usize,
 }
 
+/// What the question of the keys gives back: its answer, how many keys are down, and the lowest.
+#[repr(C)]
+#[derive(Clone, Copy, Debug, PartialEq, Eq)]
+pub struct Keys {
+    pub answer: u32,
+    pub down: u32,
+    pub lowest: u32,
+}
+
 /// The record of a channel that nothing has been heard of.
 pub fn empty() -> Record {
     Record {
+        keys: [0; 2],
         kind: NONE,
         bank_high: MISSING,
         bank_low: MISSING,
@@ -62,6 +82,7 @@ pub fn empty() -> Record {
 }
 
 impl Record {
+    /// Any keys may be down in a sound record.
     fn sound(&self) -> bool {
         let address = match self.kind {
             NONE => [self.address_bank, self.address_index, self.data_high] == [MISSING; 3],
@@ -101,6 +122,20 @@ impl Record {
     fn set_address_index(&mut self, kind: u16, value: u8) {
         self.begin_address(kind);
         self.address_index = value;
+    }
+
+    #[inline(always)]
+    fn set_key(&mut self, key: u32, down: bool) {
+        let bit = key % 64;
+        let half = &mut self.keys[(key / 64) as usize];
+        *half = *half & !(1 << bit) | u64::from(down) << bit;
+    }
+
+    fn lamp(&self, key: usize) -> char {
+        match self.keys[key / 64] >> (key % 64) & 1 {
+            1 => '#',
+            _ => '.',
+        }
     }
 }
 
@@ -170,7 +205,7 @@ fn refused(answer: u32, read: usize) -> Done {
 
 /// Refuses a packet that is known to have a bad field. Few packets have one, so its place is looked
 /// for here and nowhere before.
-#[cold]
+#[inline(always)]
 fn bad_data(packet: &[u32]) -> Done {
     Done {
         place: first_bad_field(packet),
@@ -178,6 +213,7 @@ fn bad_data(packet: &[u32]) -> Done {
     }
 }
 
+#[cold]
 fn first_bad_field(packet: &[u32]) -> u32 {
     match *packet {
         [first, second] if first >> 28 == 3 => first_bad_of_exclusive(first, second),
@@ -335,6 +371,33 @@ pub fn run_up(words: &[u32], table: &mut [Record], out: &mut [u32]) -> Done {
     }
 }
 
+/// How many keys of a channel are down, and the lowest of them.
+pub fn keys_down(table: &[Record], group: u8, channel: u8) -> Keys {
+    if table.len() != 256 {
+        return no_keys(NOT_256_RECORDS);
+    }
+    if group > 15 || channel > 15 {
+        return no_keys(ABOVE_15);
+    }
+    let [low, high] = table[16 * usize::from(group) + usize::from(channel)].keys;
+    match u128::from(high) << 64 | u128::from(low) {
+        0 => no_keys(ANSWERED),
+        keys => Keys {
+            answer: ANSWERED,
+            down: keys.count_ones(),
+            lowest: keys.trailing_zeros(),
+        },
+    }
+}
+
+fn no_keys(answer: u32) -> Keys {
+    Keys {
+        answer,
+        down: 0,
+        lowest: NO_KEY,
+    }
+}
+
 /// Treats the packet at the start of the words, going down.
 pub fn down(words: &[u32], out: &mut [u32]) -> Done {
     down_packet(words, out)
@@ -345,6 +408,7 @@ pub fn run_down(words: &[u32], out: &mut [u32]) -> Done {
     run(words, out, down_packet)
 }
 
+/// Upward the whole of a call becomes part of the loop, so that its report stays in registers.
 #[inline(always)]
 fn run(words: &[u32], out: &mut [u32], mut call: impl FnMut(&[u32], &mut [u32]) -> Done) -> Done {
     let mut total = Done {
@@ -391,7 +455,7 @@ fn up_voice(word: u32, record: &mut Record, out: &mut [u32]) -> Done {
     let same = word & 0x0FFF_0000 | 0x4000_0000;
     let (first, second) = (word >> 8 & 127, word & 127);
     match status {
-        0x8 | 0x9 => up_note(word, out),
+        0x8 | 0x9 => up_note(word, record, out),
         0xA => send(1, [same | first << 8, SCALED_7_TO_32[second as usize]], out),
         0xB => up_control_change(word, record, out),
         0xC => up_program_change(word, record, out),
@@ -400,16 +464,18 @@ fn up_voice(word: u32, record: &mut Record, out: &mut [u32]) -> Done {
     }
 }
 
+/// A Note On with a velocity presses its key, and every other note lifts it.
 #[inline(always)]
-fn up_note(word: u32, out: &mut [u32]) -> Done {
+fn up_note(word: u32, record: &mut Record, out: &mut [u32]) -> Done {
     let velocity = word & 127;
     let status = if velocity == 0 { 0x8 } else { word >> 20 & 15 };
     let scaled = SCALED_7_TO_16[velocity as usize];
-    send(
-        1,
-        [midi_2_word(word, status, word & 0x7F00), scaled << 16],
-        out,
-    )
+    let words = [midi_2_word(word, status, word & 0x7F00), scaled << 16];
+    let done = send(1, words, out);
+    if done.answer == SENT {
+        record.set_key(word >> 8 & 127, status == 0x9);
+    }
+    done
 }
 
 #[inline(always)]
@@ -425,6 +491,7 @@ fn up_control_change(word: u32, record: &mut Record, out: &mut [u32]) -> Done {
         6 if record.takes_data() => record.data_high = value,
         38 if record.data_high != MISSING => return up_data(word, record, out),
         6 | 38 | 96 | 97 => (),
+        120 | 123 => return up_silence(word, record, out),
         121 => return up_reset(word, record, out),
         _ => return up_plain(word, out),
     }
@@ -438,7 +505,18 @@ fn up_plain(word: u32, out: &mut [u32]) -> Done {
     send(1, [first, SCALED_7_TO_32[(word & 127) as usize]], out)
 }
 
-/// Reset All Controllers goes on as itself and closes the address; the bank halves stay.
+/// All Sound Off and All Notes Off go on as themselves and lift every key of the channel.
+#[inline(always)]
+fn up_silence(word: u32, record: &mut Record, out: &mut [u32]) -> Done {
+    let done = up_plain(word, out);
+    if done.answer == SENT {
+        record.keys = [0; 2];
+    }
+    done
+}
+
+/// Reset All Controllers goes on as itself and closes the address; bank halves and keys stay.
+#[inline(always)]
 fn up_reset(word: u32, record: &mut Record, out: &mut [u32]) -> Done {
     let done = up_plain(word, out);
     if done.answer == SENT {
@@ -448,6 +526,7 @@ fn up_reset(word: u32, record: &mut Record, out: &mut [u32]) -> Done {
 }
 
 /// The registered or assignable controller that data low completes.
+#[inline(always)]
 fn up_data(word: u32, record: &Record, out: &mut [u32]) -> Done {
     let status = if record.kind == REGISTERED { 0x2 } else { 0x3 };
     let index = u32::from(record.address_bank) << 8 | u32::from(record.address_index);
@@ -460,6 +539,7 @@ fn up_data(word: u32, record: &Record, out: &mut [u32]) -> Done {
 }
 
 /// A bank goes out once, with the first program change after it.
+#[inline(always)]
 fn up_program_change(word: u32, record: &mut Record, out: &mut [u32]) -> Done {
     let (high, low) = (record.bank_high, record.bank_low);
     let (flag, bank) = if high != MISSING && low != MISSING {
@@ -603,6 +683,31 @@ fn filter(bytes: &[u8], call: impl FnOnce(&[u32], &mut [u32]) -> Done) -> Vec<u8
     let done = call(&words, &mut out);
     let sent = out[..done.written].iter();
     sent.flat_map(|word| word.to_be_bytes()).collect()
+}
+
+/// The standard output of the panel program for this standard input.
+pub fn panel(bytes: &[u8]) -> Vec<u8> {
+    let words = words_of(bytes);
+    let mut table = [empty(); 256];
+    run_up(&words, &mut table, &mut vec![0; 2 * words.len()]);
+    let mut text = String::new();
+    for group in 0..16 {
+        for channel in 0..16 {
+            text += &panel_line(&table, group, channel);
+        }
+    }
+    text.into_bytes()
+}
+
+/// The line of a channel, or nothing where no key is down.
+fn panel_line(table: &[Record; 256], group: u8, channel: u8) -> String {
+    let keys = keys_down(table, group, channel);
+    if keys.down == 0 {
+        return String::new();
+    }
+    let record = table[16 * usize::from(group) + usize::from(channel)];
+    let lamps: String = (0..128).map(|key| record.lamp(key)).collect();
+    format!("{group} {channel} {} {} {lamps}\n", keys.down, keys.lowest)
 }
 
 /// The whole big-endian words; one to three left-over bytes are no word.

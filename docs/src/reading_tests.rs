@@ -55,6 +55,7 @@ fn record(kind: u16, numbers: [u8; 5]) -> Record {
         address_bank,
         address_index,
         data_high,
+        ..empty()
     }
 }
 
@@ -562,7 +563,7 @@ fn only_the_own_record_of_a_voice_must_be_sound() {
             assert_eq!(up_with(&mut table, &[0x10F80000]), sent(1, &[0x10F80000]));
             assert_eq!(up_with(&mut table, &[word | 0x8000]), nothing(BAD_DATA, 1));
             assert_eq!(up_with(&mut table, &[0x21F10000]), nothing(BAD_STATUS, 1));
-            assert_eq!(up_with(&mut table, &[0x20903C40]).0, SENT);
+            assert_eq!(up_with(&mut table, &[0x20803C40]).0, SENT);
             assert_eq!(table, before);
         }
         for (kind, numbers) in SOUND_RECORDS {
@@ -994,5 +995,396 @@ fn a_run_taken_up_again_gives_the_whole() {
             (0, 9, 9)
         );
         assert_eq!((out, table), (whole, whole_table));
+    }
+}
+
+/// A record of which only these keys are known.
+fn keyed(keys: &[u32]) -> Record {
+    let mut record = empty();
+    for key in keys {
+        match key {
+            0..=63 => record.keys[0] |= 1 << key,
+            _ => record.keys[1] |= 1 << (key - 64),
+        }
+    }
+    record
+}
+
+/// A MIDI 1.0 voice in group 5 and channel 10, whose record is number 0x5A.
+fn voice(status: u32, first: u32, second: u32) -> u32 {
+    0x250A0000 | status << 20 | first << 8 | second
+}
+
+/// What a record becomes by one word that must be accepted and may change no other record.
+fn after(before: Record, word: u32) -> Record {
+    let mut table = [keyed(&[1, 126]); 256];
+    table[0x5A] = before;
+    let mut expected = table;
+    assert!(up_with(&mut table, &[word]).0 <= TAKEN_IN);
+    expected[0x5A] = table[0x5A];
+    assert!(table == expected);
+    table[0x5A]
+}
+
+const NOTE_OFF: u32 = 0x8;
+const NOTE_ON: u32 = 0x9;
+const CONTROL: u32 = 0xB;
+
+#[test]
+fn the_layout_is_that_of_the_c_structs() {
+    use std::mem::{align_of, size_of};
+    assert_eq!((size_of::<Record>(), align_of::<Record>()), (24, 8));
+    assert_eq!((size_of::<Keys>(), align_of::<Keys>()), (12, 4));
+    let record = empty();
+    let start = std::ptr::addr_of!(record) as usize;
+    assert_eq!(std::ptr::addr_of!(record.keys) as usize - start, 0);
+    assert_eq!(std::ptr::addr_of!(record.kind) as usize - start, 16);
+    assert_eq!(std::ptr::addr_of!(record.bank_high) as usize - start, 18);
+    assert_eq!(std::ptr::addr_of!(record.data_high) as usize - start, 22);
+}
+
+#[test]
+fn a_note_on_with_a_velocity_presses_its_key() {
+    assert_eq!(empty().keys, [0, 0]);
+    assert_eq!(after(empty(), voice(NOTE_ON, 0, 1)).keys, [1, 0]);
+    assert_eq!(after(empty(), voice(NOTE_ON, 63, 1)).keys, [1 << 63, 0]);
+    assert_eq!(after(empty(), voice(NOTE_ON, 64, 1)).keys, [0, 1]);
+    assert_eq!(after(empty(), voice(NOTE_ON, 127, 1)).keys, [0, 1 << 63]);
+    for key in 0..128 {
+        for velocity in 1..128 {
+            let word = voice(NOTE_ON, key, velocity);
+            assert_eq!(after(empty(), word), keyed(&[key]));
+        }
+        // A key that is down already stays down, and so do the others.
+        let before = keyed(&[5, 70, key]);
+        assert_eq!(after(before, voice(NOTE_ON, key, 64)), before);
+        let others = keyed(&[5, 70]);
+        assert_eq!(after(others, voice(NOTE_ON, key, 64)), before);
+    }
+}
+
+#[test]
+fn a_note_off_and_a_silent_note_on_lift_their_key() {
+    let mut all = empty();
+    all.keys = [u64::MAX; 2];
+    for key in 0..128 {
+        let rest: Vec<u32> = (0..128).filter(|other| *other != key).collect();
+        for velocity in 0..128 {
+            assert_eq!(after(all, voice(NOTE_OFF, key, velocity)), keyed(&rest));
+        }
+        assert_eq!(after(all, voice(NOTE_ON, key, 0)), keyed(&rest));
+        // A key that is up already stays up.
+        assert_eq!(after(keyed(&rest), voice(NOTE_OFF, key, 0)), keyed(&rest));
+        assert_eq!(after(keyed(&rest), voice(NOTE_ON, key, 0)), keyed(&rest));
+    }
+}
+
+#[test]
+fn only_120_and_123_of_all_controllers_lift_keys_and_they_lift_all() {
+    for keys in [
+        [1, 0],
+        [0, 1 << 63],
+        [0x8000_0000_0000_0001, 5],
+        [u64::MAX; 2],
+    ] {
+        for (index, value) in (0..128).flat_map(|index| [0, 1, 64, 127].map(|v| (index, v))) {
+            let mut before = record(REGISTERED, [1, 2, 3, 4, 5]);
+            before.keys = keys;
+            let expected = match index {
+                120 | 123 => Record {
+                    keys: [0; 2],
+                    ..before
+                },
+                _ => Record {
+                    keys,
+                    ..after(before, voice(CONTROL, index, value))
+                },
+            };
+            assert_eq!(after(before, voice(CONTROL, index, value)), expected);
+        }
+    }
+}
+
+#[test]
+fn the_other_messages_leave_the_keys() {
+    let before = keyed(&[0, 60, 63, 64, 127]);
+    for status in [0xA, 0xC, 0xD, 0xE] {
+        for first in [0, 59, 60, 63, 64, 127] {
+            for second in [0, 1, 60, 127] {
+                assert_eq!(after(before, voice(status, first, second)), before);
+            }
+        }
+    }
+    let mut table = [before; 256];
+    for words in [
+        &[0x00203C40][..],
+        &[0x10F23C40],
+        &[0x35023C40, 0x259A3D40],
+        &[0x55903D40, 0x259A3D40, 0x258A3C40, 0x25BA7800],
+        &[0xD5903D40, 0x259A3D40, 0x258A3C40, 0x25BA7800],
+        &[0xF5903D40, 0x259A3D40, 0x258A3C40, 0x25BA7800],
+    ] {
+        assert_eq!(up_with(&mut table, words), sent(words.len(), words));
+    }
+    assert!(table == [before; 256]);
+}
+
+#[test]
+fn a_reset_closes_the_address_and_a_program_change_spends_the_bank_but_keys_stay() {
+    let mut before = record(ASSIGNABLE, [1, 2, 3, 4, 5]);
+    before.keys = [0x1234_5678_9ABC_DEF0, 0x8000_0000_0000_0001];
+    let mut reset = record(NONE, [1, 2, M, M, M]);
+    reset.keys = before.keys;
+    assert_eq!(after(before, voice(CONTROL, 121, 0)), reset);
+    let mut spent = record(ASSIGNABLE, [M, M, 3, 4, 5]);
+    spent.keys = before.keys;
+    assert_eq!(after(before, voice(0xC, 5, 0)), spent);
+}
+
+#[test]
+fn refused_packets_leave_the_keys() {
+    let mut table = [keyed(&[0, 60, 63, 64, 127]); 256];
+    let before = table;
+    for (words, answer) in [
+        (&[0x25903D80][..], BAD_DATA),
+        (&[0x2590BD40], BAD_DATA),
+        (&[0x25803C80], BAD_DATA),
+        (&[0x2580BC40], BAD_DATA),
+        (&[0x25B07880], BAD_DATA),
+        (&[0x25B0FB00], BAD_DATA),
+        (&[0x25103D40], BAD_STATUS),
+        (&[0x25703D40], BAD_STATUS),
+        (&[0x25F03D40], BAD_STATUS),
+        (&[0x45903D00, 0x80000000], WRONG_PROTOCOL),
+        (&[0x45803C00, 0x80000000], WRONG_PROTOCOL),
+        (&[0x45B07800, 0], WRONG_PROTOCOL),
+        (&[0x65903D40], RESERVED_TYPE),
+        (&[0xB5903D40, 0x25903D40, 0x25803C40], RESERVED_TYPE),
+        (&[0x55903D40, 0x25903D40, 0x25803C40], CUT),
+    ] {
+        assert_eq!(up_with(&mut table, words).0, answer, "{:08X?}", words);
+        assert!(table == before);
+    }
+}
+
+const KEY_WORDS: [u32; 5] = [0x259A3D40, 0x259A3C00, 0x258A3C40, 0x25BA7800, 0x25BA7B00];
+
+#[test]
+fn a_note_without_room_leaves_the_keys() {
+    let mut table = [keyed(&[0, 60, 63, 64, 127]); 256];
+    let before = table;
+    for word in KEY_WORDS {
+        for room in 0..2 {
+            let done = up(&[word], &mut table, &mut vec![0; room]);
+            assert_eq!(done, stopped(OUTPUT_SHORT));
+            let done = run_up(&[word], &mut table, &mut vec![0; room]);
+            assert_eq!(done, stopped(OUTPUT_SHORT));
+            assert!(table == before);
+        }
+        assert_eq!(up(&[word], &mut table, &mut [0; 2]).answer, SENT);
+        assert!(table != before);
+        table = before;
+    }
+}
+
+#[test]
+fn a_note_with_an_unsound_record_or_another_table_leaves_the_keys() {
+    for word in KEY_WORDS {
+        let mut table = [keyed(&[0, 60, 63, 64, 127]); 256];
+        table[0x5A].bank_high = 128;
+        let before = table;
+        assert_eq!(up_with(&mut table, &[word]), nothing(NOT_SOUND, 0));
+        assert!(table == before);
+        for length in [0, 91, 255, 257] {
+            let mut table = vec![keyed(&[0, 60, 63, 64, 127]); length];
+            let before = table.clone();
+            assert_eq!(up_with(&mut table, &[word]), nothing(NOT_256_RECORDS, 0));
+            assert!(table == before);
+        }
+    }
+}
+
+#[test]
+fn any_keys_are_sound() {
+    for keys in [[u64::MAX; 2], [1, 0], [0, 1 << 63], [0x5555, 0xAAAA]] {
+        for (kind, numbers) in SOUND_RECORDS {
+            let mut before = record(kind, numbers);
+            before.keys = keys;
+            assert_eq!(after(before, voice(0xA, 60, 64)), before);
+        }
+    }
+}
+
+#[test]
+fn a_run_that_stops_keeps_what_was_pressed_before() {
+    let mut table = fresh();
+    let stream = [0x20903C40, 0x20903D40, 0x20803C40];
+    let done = run_up(&stream, &mut table, &mut [0; 5]);
+    assert_eq!((done.answer, done.read), (OUTPUT_SHORT, 2));
+    assert_eq!(table[0], keyed(&[60, 61]));
+    let done = run_up(&stream[2..], &mut table, &mut [0; 2]);
+    assert_eq!((done.answer, done.read), (SENT, 1));
+    assert_eq!(table[0], keyed(&[61]));
+}
+
+/// Whether a key of group 5 and channel 10 is down by what an accepted word says, if it says so.
+fn said_of(word: u32, key: u32) -> Option<bool> {
+    let bytes = word.to_be_bytes().map(u32::from);
+    match bytes {
+        [0x25, 0x9A, note, velocity] if note == key => Some(velocity > 0),
+        [0x25, 0x8A, note, _] if note == key => Some(false),
+        [0x25, 0xBA, 120 | 123, _] => Some(false),
+        _ => None,
+    }
+}
+
+#[test]
+fn a_key_is_where_the_last_accepted_word_about_it_put_it() {
+    let mut state = 1_u32;
+    let mut thrown = |from: &[u32]| {
+        state = state.wrapping_mul(1_664_525).wrapping_add(1_013_904_223);
+        from[(state >> 8) as usize % from.len()]
+    };
+    let mut table = fresh();
+    let mut accepted = vec![];
+    for _ in 0..3_000 {
+        let head = thrown(&[
+            0x259A, 0x259A, 0x259A, 0x259A, 0x258A, 0x258A, 0x25BA, 0x25CA, 0x259B, 0x259B, 0x25BB,
+            0x2A95, 0x459A, 0x659A, 0x25FA, 0x251A, 0x25EA, 0x25AA,
+        ]);
+        let first = thrown(&[
+            0, 1, 62, 63, 64, 65, 120, 121, 123, 126, 127, 128, 191, 248, 251,
+        ]);
+        let second = thrown(&[0, 0, 1, 63, 64, 127, 128, 255]);
+        let room = thrown(&[2, 2, 2, 2, 1, 0]) as usize;
+        let word = head << 16 | first << 8 | second;
+        let done = up(&[word, 0], &mut table, &mut vec![0; room]);
+        if done.answer <= TAKEN_IN {
+            accepted.push(word);
+        }
+        let down = |key: &u32| accepted.iter().rev().find_map(|word| said_of(*word, *key));
+        let keys: Vec<u32> = (0..128).filter(|key| down(key) == Some(true)).collect();
+        assert_eq!(table[0x5A].keys, keyed(&keys).keys);
+        let lowest = keys.first().copied().unwrap_or(255);
+        assert_eq!(keys_down(&table, 5, 10), shown(keys.len() as u32, lowest));
+    }
+}
+
+fn shown(down: u32, lowest: u32) -> Keys {
+    Keys {
+        answer: 0,
+        down,
+        lowest,
+    }
+}
+
+fn not_shown(answer: u32) -> Keys {
+    Keys {
+        answer,
+        down: 0,
+        lowest: 255,
+    }
+}
+
+#[test]
+fn the_question_counts_the_keys_and_names_the_lowest() {
+    let mut table = fresh();
+    for group in 0..16 {
+        for channel in 0..16 {
+            assert_eq!(keys_down(&table, group, channel), shown(0, 255));
+        }
+    }
+    for key in 0..128 {
+        table[0x5A] = keyed(&[key]);
+        assert_eq!(keys_down(&table, 5, 10), shown(1, key));
+        table[0x5A] = keyed(&[key, 127]);
+        assert_eq!(keys_down(&table, 5, 10), shown(2 - key / 127, key));
+        table[0x5A] = keyed(&(key..128).collect::<Vec<_>>());
+        assert_eq!(keys_down(&table, 5, 10), shown(128 - key, key));
+        table[0x5A] = keyed(&(0..=key).collect::<Vec<_>>());
+        assert_eq!(keys_down(&table, 5, 10), shown(key + 1, 0));
+        assert_eq!(keys_down(&table, 10, 5), shown(0, 255));
+    }
+}
+
+#[test]
+fn the_question_asks_the_record_of_group_and_channel() {
+    for (group, channel) in (0..16).flat_map(|group| (0..16).map(move |channel| (group, channel))) {
+        let mut table = [keyed(&[1, 2]); 256];
+        table[16 * usize::from(group) + usize::from(channel)] = keyed(&[3, 63, 64]);
+        // What else is in the record does not matter, nor whether it is sound.
+        table.iter_mut().for_each(|record| record.kind = 3);
+        assert_eq!(keys_down(&table, group, channel), shown(3, 3));
+        assert_eq!(keys_down(&table, group, channel ^ 1), shown(2, 1));
+        assert_eq!(keys_down(&table, group ^ 1, channel), shown(2, 1));
+    }
+}
+
+#[test]
+fn the_question_refuses_another_table_before_a_channel_out_of_range() {
+    let full = keyed(&[0, 63, 64, 127]);
+    for length in [0, 1, 16, 255, 257, 512] {
+        let table = vec![full; length];
+        for (group, channel) in [(0, 0), (15, 15), (16, 0), (0, 16), (255, 255)] {
+            assert_eq!(keys_down(&table, group, channel), not_shown(10));
+        }
+    }
+    for group in 0..=255 {
+        for channel in 0..=255 {
+            let expected = match (group, channel) {
+                (0..=15, 0..=15) => shown(4, 0),
+                _ => not_shown(24),
+            };
+            assert_eq!(keys_down(&[full; 256], group, channel), expected);
+        }
+    }
+}
+
+/// The lamps of a row in which these keys are down.
+fn lamps(keys: &[usize]) -> String {
+    let mut row = vec!['.'; 128];
+    keys.iter().for_each(|key| row[*key] = '#');
+    row.into_iter().collect()
+}
+
+fn panel_text(bytes: &[u8]) -> String {
+    String::from_utf8(panel(bytes)).unwrap()
+}
+
+#[test]
+fn the_panel_has_a_line_for_each_channel_with_keys_down() {
+    assert_eq!(panel_text(&[]), "");
+    let whole = format!("0 0 1 60 {}#{}\n", ".".repeat(60), ".".repeat(67));
+    assert_eq!(panel_text(&bytes_of(&[0x20903C40])), whole);
+    let stream = [
+        0x2F9F7F01, 0x219A0001, 0x2A913F40, 0x2A914040, 0x2A917F40, 0x2A910040, 0x209F0540,
+        0x22903C40, 0x22803C00, 0x23903C40, 0x23903C00, 0x24903C40, 0x24B07800, 0x25903C40,
+        0x25B07B00, 0x26900A40, 0x26900940, 0x26B07900, 0x26900B80, 0x46900C00, 0x80000000,
+    ];
+    let lines = [
+        format!("0 15 1 5 {}\n", lamps(&[5])),
+        format!("1 10 1 0 {}\n", lamps(&[0])),
+        format!("6 0 2 9 {}\n", lamps(&[9, 10])),
+        format!("10 1 4 0 {}\n", lamps(&[0, 63, 64, 127])),
+        format!("15 15 1 127 {}\n", lamps(&[127])),
+    ];
+    assert_eq!(panel_text(&bytes_of(&stream)), lines.concat());
+}
+
+#[test]
+fn the_panel_shows_every_key_and_ignores_a_cut_end() {
+    let words: Vec<u32> = (0..128).map(|key| 0x2C930040 | key << 8).collect();
+    let mut bytes = bytes_of(&words);
+    let line = format!("12 3 128 0 {}\n", "#".repeat(128));
+    assert_eq!(panel_text(&bytes), line);
+    for end in [
+        &[0x2C][..],
+        &[0x2C, 0xB3, 0x78],
+        &[0x50, 0, 0, 0, 0x2C, 0xB3, 0x78, 0],
+        &[0xB0, 0, 0, 0, 0x2C, 0x83, 0, 0, 0x2C],
+    ] {
+        bytes.extend(end);
+        assert_eq!(panel_text(&bytes), line);
+        bytes.truncate(4 * 128);
     }
 }

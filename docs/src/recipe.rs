@@ -1,9 +1,10 @@
-//! Writes the stored standard input and the expected standard output of the three programs.
-//! Everything follows from the tables and seeds in this file.
+//! Writes the stored standard input and the expected standard output of the four programs.
+//! Everything follows from the tables and seeds of this file, and from the scenes for the panel.
 
 mod packets;
+mod scenes;
 
-use packets::{bad_packet, every_place, packet, Dice, Named, EDGE_VALUES};
+use packets::{bad_packet, every_place, packet, packet_about_keys, Dice, Named, EDGE_VALUES};
 use reading::{size, Done, Record, BAD_DATA};
 use std::path::Path;
 
@@ -21,10 +22,16 @@ struct Plan {
     every_case: fn(&mut Dice) -> Vec<u32>,
     /// The message types of the random mix, each as often as it stands here.
     types: &'static [u32],
+    /// A packet of one of these types.
+    mixed: fn(&mut Dice, u32) -> [u32; 4],
+    /// What stands behind the mix.
+    last: fn(&mut Dice) -> Vec<u32>,
     /// For each edge the type of the packet across it, and its words before the edge.
     straddles: [(u32, usize); 3],
     cut_end: &'static [u8],
     output: fn(&[u8]) -> Vec<u8>,
+    /// Fails unless the output shows what it must.
+    check_output: fn(&[u8]),
     /// Treats the packet at the start of the words.
     call: fn(&[u32], &mut [Record]) -> Done,
     /// The answers that must occur.
@@ -60,30 +67,39 @@ const TYPES_LISTING: [u32; 48] = [
     3, 3, 3, 3, 4, 5, 6, 7, 8, 9, 0xA, 0xB, 0xC, 0xD, 0xE, 0xF,
 ];
 
-fn plans() -> [Plan; 3] {
-    let listing = Plan {
+fn listing() -> Plan {
+    Plan {
         name: "listing",
         seed: 1,
         examples: &EXAMPLES_UP,
         every_case: every_case_up,
         types: &TYPES_LISTING,
+        mixed: packet,
+        last: |_| vec![],
         straddles: [(0xD, 1), (0xB, 2), (0x3, 1)],
         cut_end: &[0xB0, 0, 0, 0, 0, 0, 0, 0, 0x20],
         output: reading::listing,
+        check_output: |_| (),
         call: |words, table| reading::up(words, table, &mut [0; 4]),
         answers: &[0, 1, 4, 5, 6, 7],
         checked: &[1, 2, 3],
-    };
-    let up = Plan {
+    }
+}
+
+fn up() -> Plan {
+    Plan {
         name: "up",
         seed: 2,
         types: &TYPES_UP,
         straddles: [(0x3, 1), (0xC, 2), (0x5, 3)],
         cut_end: &[0x50, 0, 0, 0, 1, 2, 3, 4, 5, 6, 7, 8, 9, 10, 11],
         output: reading::up_filter,
-        ..listing
-    };
-    let down = Plan {
+        ..listing()
+    }
+}
+
+fn down() -> Plan {
+    Plan {
         name: "down",
         seed: 3,
         examples: &EXAMPLES_DOWN,
@@ -95,8 +111,26 @@ fn plans() -> [Plan; 3] {
         call: |words, _| reading::down(words, &mut [0; 4]),
         answers: &[0, 2, 4, 5, 6, 7],
         checked: &[1, 3, 4],
-    };
-    [listing, up, down]
+        ..listing()
+    }
+}
+
+fn panel() -> Plan {
+    Plan {
+        name: "panel",
+        seed: 4,
+        types: &TYPES_UP,
+        mixed: packet_about_keys,
+        last: scenes::every_scene,
+        straddles: [(0x8, 1), (0xB, 1), (0xD, 2)],
+        // What is there of the packet looks like a Note On, and so do the bytes left over.
+        cut_end: &[
+            0x5D, 0x9F, 0x3C, 0x40, 0x2D, 0x9F, 0x3C, 0x40, 0x2D, 0x9F, 0x3C,
+        ],
+        output: reading::panel,
+        check_output: scenes::check_panel,
+        ..listing()
+    }
 }
 
 fn push(dice: &mut Dice, message_type: u32, stream: &mut Vec<u32>) {
@@ -179,17 +213,18 @@ fn damage(dice: &mut Dice, packet: &mut [u32]) {
     packet[place] ^= 1 << dice.below(bits);
 }
 
-fn push_mixed(dice: &mut Dice, types: &[u32], stream: &mut Vec<u32>) {
+fn push_mixed(dice: &mut Dice, plan: &Plan, stream: &mut Vec<u32>) {
     let start = stream.len();
-    let message_type = dice.pick(types);
-    push(dice, message_type, stream);
+    let message_type = dice.pick(plan.types);
+    let words = (plan.mixed)(dice, message_type);
+    stream.extend(&words[..size(words[0])]);
     if dice.one_in(10) {
         damage(dice, &mut stream[start..]);
     }
 }
 
-/// Examples, every case, every place of bad data, then the random mix with a packet across each
-/// edge.
+/// Examples, every case, every place of bad data, the random mix with a packet across each edge,
+/// and what stands behind it.
 fn whole_packets(plan: &Plan) -> Vec<u32> {
     let mut dice = Dice::new(plan.seed);
     let mut stream = plan.examples.to_vec();
@@ -205,7 +240,7 @@ fn whole_packets(plan: &Plan) -> Vec<u32> {
             plan.name
         );
         while stream.len() + 8 < edge {
-            push_mixed(&mut dice, plan.types, &mut stream);
+            push_mixed(&mut dice, plan, &mut stream);
         }
         // Two words each up to the last packet: a rest carried over moves a reader's later edges.
         if (edge - before - stream.len()) % 2 == 1 {
@@ -217,8 +252,9 @@ fn whole_packets(plan: &Plan) -> Vec<u32> {
         push(&mut dice, message_type, &mut stream);
     }
     for _ in 0..AFTER_LAST_EDGE {
-        push_mixed(&mut dice, plan.types, &mut stream);
+        push_mixed(&mut dice, plan, &mut stream);
     }
+    stream.extend((plan.last)(&mut dice));
     stream
 }
 
@@ -270,15 +306,17 @@ fn write(plan: &Plan, folder: &Path) -> std::io::Result<()> {
     check(plan, &stream);
     let mut input: Vec<u8> = stream.iter().flat_map(|word| word.to_be_bytes()).collect();
     input.extend(plan.cut_end);
+    let output = (plan.output)(&input);
+    (plan.check_output)(&output);
     let folder = folder.join(plan.name);
     std::fs::create_dir_all(&folder)?;
-    std::fs::write(folder.join("stdout"), (plan.output)(&input))?;
+    std::fs::write(folder.join("stdout"), output)?;
     std::fs::write(folder.join("stdin"), input)
 }
 
 fn main() -> std::io::Result<()> {
     let folder = std::env::args().nth(1).expect("usage: recipe FOLDER");
-    plans()
+    [listing(), up(), down(), panel()]
         .iter()
         .try_for_each(|plan| write(plan, Path::new(&folder)))
 }

@@ -1,0 +1,112 @@
+//! What a comparison has seen of keys and of the question about them.
+
+use reading::{Keys, Record, ABOVE_15, ANSWERED, NOT_256_RECORDS, NOT_SOUND, OUTPUT_SHORT, SENT};
+
+/// The MIDI 1.0 voices that move keys, and the reset, which moves none.
+const SORTS: [&str; 6] = [
+    "Note On",
+    "silent Note On",
+    "Note Off",
+    "controller 120",
+    "controller 123",
+    "controller 121",
+];
+
+fn sort(word: u32) -> Option<usize> {
+    let (status, first, second) = (word >> 20 & 15, word >> 8 & 255, word & 255);
+    match (word >> 28, status, first) {
+        (2, 0x9, _) => Some(if second == 0 { 1 } else { 0 }),
+        (2, 0x8, _) => Some(2),
+        (2, 0xB, 120) => Some(3),
+        (2, 0xB, 123) => Some(4),
+        (2, 0xB, 121) => Some(5),
+        _ => None,
+    }
+}
+
+fn row(record: Record) -> u128 {
+    u128::from(record.keys[1]) << 64 | u128::from(record.keys[0])
+}
+
+/// How single calls answered each sort of voice, and which keys these calls moved.
+pub struct KeyVoices {
+    answers: [[usize; 11]; SORTS.len()],
+    pressed: [u128; SORTS.len()],
+    lifted: [u128; SORTS.len()],
+}
+
+impl KeyVoices {
+    pub fn new() -> KeyVoices {
+        KeyVoices {
+            answers: [[0; 11]; SORTS.len()],
+            pressed: [0; SORTS.len()],
+            lifted: [0; SORTS.len()],
+        }
+    }
+
+    /// Counts a call whose first packet begins with this word, with its record before and after.
+    pub fn count(&mut self, word: u32, answer: u32, records: [Record; 2]) {
+        if let Some(sort) = sort(word) {
+            let [before, after] = records.map(row);
+            self.answers[sort][answer as usize] += 1;
+            self.pressed[sort] |= after & !before;
+            self.lifted[sort] |= before & !after;
+        }
+    }
+
+    /// Prints the counts; false if a sort never had one of its answers or did not move every key.
+    pub fn summary(&self) -> bool {
+        let mut complete = true;
+        for (index, name) in SORTS.iter().enumerate() {
+            let answers = [SENT, NOT_SOUND, OUTPUT_SHORT].map(|n| self.answers[index][n as usize]);
+            let moved = [self.pressed[index], self.lifted[index]].map(u128::count_ones);
+            println!("{name}: sent, not sound, short {answers:?}; keys pressed, lifted {moved:?}");
+            let every_key = match index {
+                0 => [128, 0],
+                5 => [0, 0],
+                _ => [0, 128],
+            };
+            complete &= answers.iter().all(|count| *count > 0) && moved == every_key;
+        }
+        complete
+    }
+}
+
+/// How often the question gave each answer, each number of keys and each lowest key.
+pub struct Asked {
+    answers: [usize; 25],
+    down: [usize; 129],
+    lowest: [usize; 256],
+}
+
+impl Asked {
+    pub fn new() -> Asked {
+        Asked {
+            answers: [0; 25],
+            down: [0; 129],
+            lowest: [0; 256],
+        }
+    }
+
+    pub fn count(&mut self, keys: Keys) {
+        self.answers[keys.answer as usize] += 1;
+        if keys.answer == ANSWERED {
+            self.down[keys.down as usize] += 1;
+            self.lowest[keys.lowest as usize] += 1;
+        }
+    }
+
+    pub fn questions(&self) -> usize {
+        self.answers.iter().sum()
+    }
+
+    /// Prints the counts; false if an answer, a number of keys or a lowest key never came.
+    pub fn summary(&self) -> bool {
+        let answers = [ANSWERED, NOT_256_RECORDS, ABOVE_15].map(|n| self.answers[n as usize]);
+        println!("{} questions without a difference", self.questions());
+        println!("the question answered 0, 10, 24: {answers:?}");
+        answers.iter().chain(&self.down).all(|count| *count > 0)
+            && self.lowest[..128].iter().all(|count| *count > 0)
+            && self.lowest[255] > 0
+    }
+}
