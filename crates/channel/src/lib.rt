@@ -1,36 +1,39 @@
-// The record of a channel: bank high and low, the address that registered and assignable
-// controllers are sent to, and data high.
+// The record of a channel: the keys that are down, and what is remembered of control changes. A table
+// has one for each channel of each group.
 //
-// A record is plain numbers, so that it crosses to C as it stands, and a caller may lend any. A
-// number is 0 to 127 or `MISSING`; a record with any other is not sound. The methods take the
-// record by value and return the new one.
+// A record is plain numbers, so that it crosses to C as it stands, and a caller may lend any: every
+// number of keys is sound.
+use keys::Keys;
+use memory::Memory;
 ghost use mathlib.Core.Path.{_≡_};
-ghost use Rattle.channel.specs.Record.{StaysSound, addressed, assignable, banked, complete, dataHighPresent};
-ghost use Rattle.channel.specs.Record.{empty, fresh, kept, null, number, registered, sound, withAddressBank};
-ghost use Rattle.channel.specs.Record.{withAddressClosed, withAddressIndex, withBankHigh, withBankLow};
-ghost use Rattle.channel.specs.Record.{withBankSpent, withDataHigh};
+ghost use Rattle.channel.specs.Record.{empty, fresh, sound};
 
-// How many records a table has: one for each channel of each group.
+// How many records a table has.
 pub const RECORDS: usize = 256;
 
-// Kind: no address.
-pub const NONE: u16 = 0;
-// Kind: the address of a registered controller.
-pub const REGISTERED: u16 = 1;
-// Kind: the address of an assignable controller.
-pub const ASSIGNABLE: u16 = 2;
-// A number that is not there.
-pub const MISSING: u8 = 255;
-
-// Eight bytes with the pad, so that a record moves as one word.
+// Twenty-four bytes, in C one flat struct.
 #[repr(C)]
 pub struct Record {
-    pub kind: u16,
-    pub bank_high: u8,
-    pub bank_low: u8,
-    pub address_bank: u8,
-    pub address_index: u8,
-    pub data_high: u8,
+    pub keys: Keys,
+    pub memory: Memory,
+}
+
+impl Record {
+    // No key down, and nothing remembered.
+    pub fn empty() -> Record
+        ensures { λ r. ⌜ r ≡ empty ⌝ }
+    {
+        let keys = Keys::cleared();
+        let memory = Memory::empty();
+        Record { keys, memory }
+    }
+
+    pub fn is_sound(self) -> bool
+        ensures { λ r. ⌜ r ≡ sound self ⌝ }
+    {
+        let memory = self.memory;
+        memory.is_sound()
+    }
 }
 
 // A whole table of empty records.
@@ -39,194 +42,4 @@ pub fn fresh_table() -> [Record; RECORDS]
 {
     let e = Record::empty();
     [e; RECORDS]
-}
-
-// The laws of soundness hold of the definitions.
-pub fn stays_sound()
-    ensures { λ _. ⌜ StaysSound ⌝ }
-{}
-
-fn is_number(n: u8) -> bool
-    ensures { λ r. ⌜ r ≡ number n ⌝ }
-{
-    (n <= 127) | (n == MISSING)
-}
-
-// The other half of an address: it stays where the kind stays.
-fn kept_half(old: u16, kind: u16, half: u8) -> u8
-    ensures { λ r. ⌜ r ≡ kept old kind half ⌝ }
-{
-    if old == kind { half } else { MISSING }
-}
-
-impl Record {
-    // Everything missing, kind none.
-    pub fn empty() -> Record
-        ensures { λ r. ⌜ r ≡ empty ⌝ }
-    {
-        Record {
-            kind: NONE,
-            bank_high: MISSING,
-            bank_low: MISSING,
-            address_bank: MISSING,
-            address_index: MISSING,
-            data_high: MISSING,
-        }
-    }
-
-    // A kind, and both address halves present.
-    pub fn address_complete(self) -> bool
-        ensures { λ r. ⌜ r ≡ complete self ⌝ }
-    {
-        !(self.kind == NONE) & (!(self.address_bank == MISSING) & !(self.address_index == MISSING))
-    }
-
-    // Registered 127/127.
-    pub fn address_null(self) -> bool
-        ensures { λ r. ⌜ r ≡ null self ⌝ }
-    {
-        (self.kind == REGISTERED) & ((self.address_bank == 127) & (self.address_index == 127))
-    }
-
-    pub fn data_high_present(self) -> bool
-        ensures { λ r. ⌜ r ≡ dataHighPresent self ⌝ }
-    {
-        !(self.data_high == MISSING)
-    }
-
-    // A tree by kind and data high. That the address is null is asked only where its bank is 127.
-    pub fn is_sound(self) -> bool
-        ensures { λ r. ⌜ r ≡ sound self ⌝ }
-    {
-        let kind = self.kind;
-        let bank = self.address_bank;
-        let index = self.address_index;
-        let data_high = self.data_high;
-        if is_number(self.bank_high) & is_number(self.bank_low) {
-            if kind == NONE {
-                (bank == MISSING) & ((index == MISSING) & (data_high == MISSING))
-            } else if ASSIGNABLE < kind {
-                false
-            } else if data_high == MISSING {
-                is_number(bank) & is_number(index)
-            } else if data_high <= 127 {
-                if bank == 127 {
-                    (index < 127) | ((index == 127) & (kind == ASSIGNABLE))
-                } else {
-                    (bank <= 127) & (index <= 127)
-                }
-            } else {
-                false
-            }
-        } else {
-            false
-        }
-    }
-
-    fn banked(self, high: u8, low: u8) -> Record
-        ensures { λ r. ⌜ r ≡ banked high low self ⌝ }
-    {
-        Record {
-            kind: self.kind,
-            bank_high: high,
-            bank_low: low,
-            address_bank: self.address_bank,
-            address_index: self.address_index,
-            data_high: self.data_high,
-        }
-    }
-
-    fn addressed(self, kind: u16, bank: u8, index: u8, high: u8) -> Record
-        ensures { λ r. ⌜ r ≡ addressed kind bank index high self ⌝ }
-    {
-        Record {
-            kind,
-            bank_high: self.bank_high,
-            bank_low: self.bank_low,
-            address_bank: bank,
-            address_index: index,
-            data_high: high,
-        }
-    }
-
-    // Control change 0.
-    pub fn with_bank_high(self, v: u8) -> Record
-        ensures { λ r. ⌜ r ≡ withBankHigh self v ⌝ }
-    {
-        self.banked(v, self.bank_low)
-    }
-
-    // Control change 32.
-    pub fn with_bank_low(self, v: u8) -> Record
-        ensures { λ r. ⌜ r ≡ withBankLow self v ⌝ }
-    {
-        self.banked(self.bank_high, v)
-    }
-
-    fn with_address_bank(self, kind: u16, v: u8) -> Record
-        ensures { λ r. ⌜ r ≡ withAddressBank kind self v ⌝ }
-    {
-        let index = kept_half(self.kind, kind, self.address_index);
-        self.addressed(kind, v, index, MISSING)
-    }
-
-    fn with_address_index(self, kind: u16, v: u8) -> Record
-        ensures { λ r. ⌜ r ≡ withAddressIndex kind self v ⌝ }
-    {
-        let bank = kept_half(self.kind, kind, self.address_bank);
-        self.addressed(kind, bank, v, MISSING)
-    }
-
-    // Control change 101.
-    pub fn with_registered_bank(self, v: u8) -> Record
-        ensures { λ r. ⌜ r ≡ withAddressBank registered self v ⌝ }
-    {
-        self.with_address_bank(REGISTERED, v)
-    }
-
-    // Control change 100.
-    pub fn with_registered_index(self, v: u8) -> Record
-        ensures { λ r. ⌜ r ≡ withAddressIndex registered self v ⌝ }
-    {
-        self.with_address_index(REGISTERED, v)
-    }
-
-    // Control change 99.
-    pub fn with_assignable_bank(self, v: u8) -> Record
-        ensures { λ r. ⌜ r ≡ withAddressBank assignable self v ⌝ }
-    {
-        self.with_address_bank(ASSIGNABLE, v)
-    }
-
-    // Control change 98.
-    pub fn with_assignable_index(self, v: u8) -> Record
-        ensures { λ r. ⌜ r ≡ withAddressIndex assignable self v ⌝ }
-    {
-        self.with_address_index(ASSIGNABLE, v)
-    }
-
-    // Control change 6: only where the address is complete and not null.
-    pub fn with_data_high(self, v: u8) -> Record
-        ensures { λ r. ⌜ r ≡ withDataHigh self v ⌝ }
-    {
-        if self.address_complete() & !self.address_null() {
-            self.addressed(self.kind, self.address_bank, self.address_index, v)
-        } else {
-            self
-        }
-    }
-
-    // Control change 121: no address is left, and no data high with it.
-    pub fn with_address_closed(self) -> Record
-        ensures { λ r. ⌜ r ≡ withAddressClosed self ⌝ }
-    {
-        self.addressed(NONE, MISSING, MISSING, MISSING)
-    }
-
-    // After a program change.
-    pub fn with_bank_spent(self) -> Record
-        ensures { λ r. ⌜ r ≡ withBankSpent self ⌝ }
-    {
-        self.banked(MISSING, MISSING)
-    }
 }

@@ -9,3 +9,4 @@ pub mod RoomLaws
 pub mod RoundTrip
 pub mod NormalForm
 pub mod PlaceLaws
+pub mod PictureLaws

@@ -64,7 +64,7 @@ down-by-packets =
     (down-stops NotSent (λ e. omega arith) (u .1) p))
 
 -- a run in an output leaves a whole table whole
-stays-whole : (ps : List (List ℕ)) (room : ℕ) (t : List Record) → length t ≡ wholeTable
+pub stays-whole : (ps : List (List ℕ)) (room : ℕ) (t : List Record) → length t ≡ wholeTable
     → length (run (within tableUp) (room, t) ps .left .1) ≡ wholeTable
 stays-whole ps room t h =
     run-does (within tableUp) (λ (u : ℕ × List Record). length (u .1) ≡ wholeTable) (λ _. Unit {0}) tt

@@ -27,6 +27,7 @@ use Rattle.channel.specs.Record.{empty, fresh, sound, wholeTable}
 use Rattle.message.specs.Message.{Fits1, Midi1, Midi2, noBank, read1, write1, write2}
 use Rattle.message.proofs.MessageLaws.{place1, place2, read1-write1, read2-write2}
 use Rattle.lift.specs.Lift.{banked2, lift}
+use Rattle.lift.specs.Played.{recordAfter}
 use Rattle.lift.proofs.LiftLaws.{Upward, lift-sound, lift-upward, read1-fits, upward-fits}
 use Rattle.lower.specs.Lower.{lower}
 use Rattle.voice.specs.Packet.{callDown, callUp, packetDown, packetUp, runDown, sending, sendingDown, speakDown}
@@ -64,9 +65,9 @@ module _ (g : Group) (c : Channel) (hg : g .0 < 16) (hc : c .0 < 16) where
         p .0,
         p .1,
       )
-      (go (lower m) (taken-back empty m refl h .0))
+      (go (lower m) (taken-back (empty .memory) m refl h .0))
     where
-      go : (ms : List Midi1) → liftAll empty ms .sends ≡ m ∷ []
+      go : (ms : List Midi1) → liftAll (empty .memory) ms .sends ≡ m ∷ []
           → sendingDown g c ms ≡ went sent (map (write1 g c) ms) tt
       go [] e = absurd (nil≢cons e)
       go (x ∷ ms) e = refl
@@ -75,7 +76,7 @@ module _ (g : Group) (c : Channel) (hg : g .0 < 16) (hc : c .0 < 16) where
   up-written : (t : List Record) (m : Midi1) → Fits1 m → length t ≡ wholeTable
       → sound (getD t (recordNumber g c) empty) ≡ true
       → let r = getD t (recordNumber g c) empty in
-      tableUp t (write1 g c m ∷ []) ≡ stored t (recordNumber g c) (sending g c (lift r m .after) (lift r m .sends))
+      tableUp t (write1 g c m ∷ []) ≡ stored t (recordNumber g c) (sending g c (recordAfter r m) (lift (r .memory) m .sends))
   unfolding tableUp callUp packetUp screened speakUp
   up-written t m f l h =
       let p = place1 g c hg hc m f in
@@ -91,6 +92,16 @@ module _ (g : Group) (c : Channel) (hg : g .0 < 16) (hc : c .0 < 16) where
         k,
         h,
       )
+
+-- messages into one record, in a row, and what is then remembered
+recordAll : Record → List Midi1 → Record
+recordAll r [] = r
+recordAll r (m ∷ ms) = recordAll (recordAfter r m) ms
+
+memory-all : (ms : List Midi1) (r : Record) → recordAll r ms .memory ≡ liftAll (r .memory) ms .after
+unfolding recordAll
+memory-all [] r = refl
+memory-all (m ∷ ms) r = memory-all ms (recordAfter r m)
 
 -- a packet that is sent on, either way
 up-onward : (t : List Record) (p : List ℕ) → length t ≡ wholeTable → Whole p → screen voice2 p .answer ≡ goesOn
@@ -127,14 +138,15 @@ module _ (passes : List ℕ → Bool) (up : List Record → List ℕ → Call (L
   voices : (g : Group) (c : Channel) → g .0 < 16 → c .0 < 16 → (ms : List Midi1) (t : List Record) → All Fits1 ms
       → All (λ (x : Midi1). passes (write1 g c x ∷ []) ≡ true) ms
       → length t ≡ wholeTable → let k = recordNumber g c in
-      let x = liftAll (getD t k empty) ms in
-      sound (getD t k empty) ≡ true → Came up t (set t k (x .after)) (map (write1 g c) ms) (words g c (x .sends))
-  unfolding words
+      let r = getD t k empty in
+      sound r ≡ true
+      → Came up t (set t k (recordAll r ms)) (map (write1 g c) ms) (words g c (liftAll (r .memory) ms .sends))
+  unfolding words recordAll
   voices g c hg hc [] t f q l h = rw (set-getD t (recordNumber g c) empty) (came-none up t)
   voices g c hg hc (m ∷ ms) t f q l h =
-      go (lift r m .sends) refl
-      (rw (same, set-set t k (lift r m .after) _) at
-      (voices g c hg hc ms u (f .1) (q .1) (length-set t k (lift r m .after) ∙ l) (rw same (lift-sound r h m (f .0)))))
+      go (lift (r .memory) m .sends) refl
+      (rw (same, set-set t k (recordAfter r m) _) at
+      (voices g c hg hc ms u (f .1) (q .1) (length-set t k (recordAfter r m) ∙ l) (rw same (lift-sound (r .memory) h m (f .0)))))
     where
       k : ℕ
       k = recordNumber g c
@@ -143,25 +155,25 @@ module _ (passes : List ℕ → Bool) (up : List Record → List ℕ → Call (L
       r = getD t k empty
 
       u : List Record
-      u = set t k (lift r m .after)
+      u = set t k (recordAfter r m)
 
       w : ℕ
       w = write1 g c m
 
-      same : getD u k empty ≡ lift r m .after
-      same = getD-set-same t k (lift r m .after) empty (omega arith)
+      same : getD u k empty ≡ recordAfter r m
+      same = getD-set-same t k (recordAfter r m) empty (omega arith)
 
       v : List Record
-      v = set t k (liftAll (lift r m .after) ms .after)
+      v = set t k (recordAll (recordAfter r m) ms)
 
-      call : (o : Option Midi2) → lift r m .sends ≡ o → up t (w ∷ []) ≡ stored t k (sending g c (lift r m .after) o)
+      call : (o : Option Midi2) → lift (r .memory) m .sends ≡ o → up t (w ∷ []) ≡ stored t k (sending g c (recordAfter r m) o)
       call o e =
           gate .as-before t (w ∷ []) l (rw (packet-whole (w ∷ []) (whole1 g c hg hc m (f .0))) (q .0))
           ∙ up-written g c hg hc t m (f .0) l h ∙ rw e
 
-      go : (o : Option Midi2) → lift r m .sends ≡ o
-          → Came up u v (map (write1 g c) ms) (words g c (liftAll (lift r m .after) ms .sends))
-          → Came up t v (w ∷ map (write1 g c) ms) (words g c (asList o ++ liftAll (lift r m .after) ms .sends))
+      go : (o : Option Midi2) → lift (r .memory) m .sends ≡ o
+          → Came up u v (map (write1 g c) ms) (words g c (liftAll (lift (r .memory) m .after) ms .sends))
+          → Came up t v (w ∷ map (write1 g c) ms) (words g c (asList o ++ liftAll (lift (r .memory) m .after) ms .sends))
       go none e ih =
           came-packet up t u v (w ∷ []) [] (map (write1 g c) ms) _ 1 (whole1 g c hg hc m (f .0)) (call none e)
           (omega arith) ih
@@ -186,9 +198,9 @@ module _ (passes : List ℕ → Bool) (up : List Record → List ℕ → Call (L
   undone t u _ y (spoken g c m hg hc h q) =
       let k = recordNumber g c in
       let r = getD t k empty in
-      let after = liftAll r (lower m) .after in
+      let after = recordAll r (lower m) in
       let fits = lower-fits m h in
-      let x = taken-back r m (y .bankless k) h in
+      let x = taken-back (r .memory) m (y .bankless k) h in
       record {
         answer = 0;
         words = map (write1 g c) (lower m);
@@ -198,9 +210,11 @@ module _ (passes : List ℕ → Bool) (up : List Record → List ℕ → Call (L
         good = record {
           whole = length-set t k after ∙ y .whole;
           sounds =
-              at-set (λ (r : Record). sound r ≡ true) t k after (liftAll-sound (lower m) r fits (y .sounds k))
-              (y .sounds);
-          bankless = at-set (λ (r : Record). banked2 r ≡ noBank) t k after (x .1) (y .bankless);
+              at-set (λ (r : Record). sound r ≡ true) t k after
+              (rw (memory-all (lower m) r) (liftAll-sound (lower m) (r .memory) fits (y .sounds k))) (y .sounds);
+          bankless =
+              at-set (λ (r : Record). banked2 (r .memory) ≡ noBank) t k after (rw (memory-all (lower m) r) (x .1))
+              (y .bankless);
         };
         back = rw (x .0) at (voices g c hg hc (lower m) t fits q (y .whole) (y .sounds k));
       }
@@ -236,7 +250,7 @@ module _ (passes : List ℕ → Bool) (up : List Record → List ℕ → Call (L
             takes = λ _ _ _ _. (nothing, after _);
             sends = λ _ e h m k.
                 let r = getD t (placeOf (first s)) empty in
-                let x : Upward m = rw k at (lift-upward r h (read1 w) (read1-fits w)) in (
+                let x : Upward m = rw k at (lift-upward (r .memory) h (read1 w) (read1-fits w)) in (
                   a-packet (whole2 (groupOf w) (channelOf w) (omega arith) (omega arith) m x)
                       (spoken (groupOf w) (channelOf w) m (omega arith) (omega arith) x
                       (still p r m q (eqb-true (messageType w) voice1 e) h k)),

@@ -1,4 +1,4 @@
--- Messages: going up undoes going down, record by record. Assumes nothing.
+-- Messages: going up undoes going down, memory by memory. Assumes nothing.
 use Prim.Native.Nat.{_/_, _%_, _^_}
 use mathlib.Core.Path.{_≡_, refl, _∙_}
 use mathlib.Core.Bool.{true}
@@ -9,30 +9,30 @@ use native.Mathlib.Nat.{div-add-mod'}
 use borrow.Author.Tests.{ne-eqb}
 use Rattle.ground.specs.Lists.{All}
 use Rattle.scale.specs.Scale.{down}
-use Rattle.channel.specs.declared.Record.{Record}
-use Rattle.channel.specs.Record.{kept, missing, sound, withDataHigh}
+use Rattle.memory.specs.declared.Memory.{Memory}
+use Rattle.memory.specs.Memory.{kept, missing, sound, withDataHigh}
 use Rattle.message.specs.Message.{Fits1, Midi1, Midi2, noBank}
 use Rattle.lift.specs.Lift.{addressed2, banked2, controlOf, controlled, dataLow, lift}
 use Rattle.lift.proofs.LiftLaws.{Upward, anyAssignable, anyBankProgram, anyBend, anyNoteOff, anyNoteOn, anyPlain}
 use Rattle.lift.proofs.LiftLaws.{anyPolyPressure, anyPressure, anyProgram, anyRegistered, lift-sound, own-control}
 use Rattle.lower.specs.Lower.{lower, sounding}
 
--- messages into one record, in a row: the record after, and all that is sent
+-- messages into one memory, in a row: the memory after, and all that is sent
 pub record LiftedAll : Type 0 where
-  pub after : Record
+  pub after : Memory
   pub sends : List Midi2
 
 abbrev pub asList : Option Midi2 → List Midi2
 asList none = []
 asList (some m) = m ∷ []
 
-abbrev pub liftAll : Record → List Midi1 → LiftedAll
+abbrev pub liftAll : Memory → List Midi1 → LiftedAll
 liftAll r [] = record { after = r; sends = [] }
 liftAll r (m ∷ ms) =
     let rest = liftAll (lift r m .after) ms in
     record { after = rest .after; sends = asList (lift r m .sends) ++ rest .sends }
 
-pub liftAll-sound : (ms : List Midi1) (r : Record) → All Fits1 ms → sound r ≡ true → sound (liftAll r ms .after) ≡ true
+pub liftAll-sound : (ms : List Midi1) (r : Memory) → All Fits1 ms → sound r ≡ true → sound (liftAll r ms .after) ≡ true
 liftAll-sound [] r f h = h
 liftAll-sound (m ∷ ms) r f h = liftAll-sound ms (lift r m .after) (f .1) (lift-sound r h m (f .0))
 
@@ -50,8 +50,8 @@ lower-fits _ (anyBankProgram hp hx hy) = omega arith
 lower-fits _ (anyPressure x) = omega arith
 lower-fits _ (anyBend x) = omega arith
 
--- Into a record with no bank waiting, the messages that going down sends for m give m back, and leave no bank waiting.
-pub taken-back : (r : Record) (m : Midi2) → banked2 r ≡ noBank → Upward m
+-- Into a memory with no bank waiting, the messages that going down sends for m give m back, and leave no bank waiting.
+pub taken-back : (r : Memory) (m : Midi2) → banked2 r ≡ noBank → Upward m
     → (liftAll r (lower m) .sends ≡ m ∷ []) × (banked2 (liftAll r (lower m) .after) ≡ noBank)
 unfolding lower lift sounding controlled controlOf withDataHigh dataLow addressed2 banked2 kept
 taken-back r _ w (anyRegistered {b} {i} {v} hb hi n h) =

@@ -20,11 +20,11 @@ use Rattle.voice.specs.Packet.{runDown}
 use Rattle.table.specs.Table.{SoundTable, runBy, runUp, tableUp}
 
 -- A table to start from: a whole one, of sound records, and none has a bank that the next program change would take
--- along. An address may stand in it, and so may half a bank.
+-- along. An address may stand in it, and so may half a bank; any keys may be down.
 pub record Blank (t : List Record) : Type 0 where
   pub whole : length t ≡ wholeTable
   pub sounds : SoundTable t
-  pub bankless : (k : ℕ) → banked2 (getD t k empty) ≡ noBank
+  pub bankless : (k : ℕ) → banked2 (getD t k empty .memory) ≡ noBank
 
 -- Any stream, up from the table t, down, and up again from the table t, each in an output with room for all: the second
 -- stream of MIDI 2.0 words is the first. Packets may be refused on the way, and the last may be cut.
@@ -55,7 +55,7 @@ abbrev pub StillPasses : (List ℕ → Bool) → Type 0
 StillPasses passes =
     (p : List ℕ) (r : Record) (x : Midi2) →
     let w = first p in
-    passes p ≡ true → messageType w ≡ voice1 → sound r ≡ true → lift r (read1 w) .sends ≡ some x
+    passes p ≡ true → messageType w ≡ voice1 → sound r ≡ true → lift (r .memory) (read1 w) .sends ≡ some x
     → All (λ (m : Midi1). passes (write1 (groupOf w) (channelOf w) m ∷ []) ≡ true) (lower x)
 
 -- Demand 3 with the same rule in both passes up, for any such rule.

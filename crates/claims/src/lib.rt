@@ -2,6 +2,7 @@
 // proofs/; the functions below do nothing and ensure them, so that a check names each.
 ghost use Rattle.claims.specs.NormalForm.{NormalForm};
 ghost use Rattle.claims.specs.PacketByPacket.{PacketByPacket};
+ghost use Rattle.claims.specs.Picture.{Picture};
 ghost use Rattle.claims.specs.Places.{Places};
 ghost use Rattle.claims.specs.Refusals.{Refusals};
 ghost use Rattle.claims.specs.Room.{Room};
@@ -40,4 +41,9 @@ pub fn normal_form()
 // How long an output has to be.
 pub fn room()
     ensures { λ _. ⌜ Room ⌝ }
+{}
+
+// Which keys are down: what the accepted messages say of them.
+pub fn picture()
+    ensures { λ _. ⌜ Picture ⌝ }
 {}

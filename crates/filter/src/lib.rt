@@ -1,10 +1,11 @@
-// Standard input to standard output, a buffer at a time: what the programs listing, up and down do.
+// Standard input to standard output, a buffer at a time: what listing, up, down and panel do.
 //
 // A packet that straddles two reads is not cut, and input of any length is taken. What a buffer comes
 // to is said by the contracts of flow and wire. Here no contract can say what is read or written, so
 // these functions are proved to be safe and to end.
 mod summary;
 
+use flow::PANEL_BYTES;
 use flow::SORTS;
 use flow::Table;
 use libc::STDIN_FILENO;
@@ -31,6 +32,7 @@ enum Program {
     Lines,
     Up,
     Down,
+    Panel,
 }
 
 // What goes on from one turn to the next. The bytes that are left stand at the front of the input.
@@ -118,7 +120,25 @@ fn sent_as_bytes(
     }
 }
 
-// The packets of the words, and what they come to at the start of the text.
+// The packets of the words up, and what they send as bytes at the start of the text.
+fn up_as_bytes(
+    table: Table,
+    totals: Totals,
+    words: &[u32],
+    sent: &mut [u32],
+    text: &mut [u8],
+) -> Translated
+    ensures read { λ r. ⌜ r .read ≤ length (now (words .entry)) ⌝ }
+    ensures bytes { λ r. ⌜ r .bytes ≤ length (now (text .exit)) ⌝ }
+{
+    let ran = flow::up_some(table, words, sent);
+    let table = ran.table;
+    let counts = ran.counts;
+    sent_as_bytes(table, totals, ran.done, counts, sent, text)
+}
+
+// The packets of the words, and what they come to at the start of the text. The panel shows none of the
+// words sent, so it leaves their bytes no room.
 fn translate(
     program: Program,
     table: Table,
@@ -143,17 +163,13 @@ fn translate(
                 bytes: done.written,
             }
         }
-        Program::Up => {
-            let ran = flow::up_some(table, words, sent);
-            let table = ran.table;
-            let counts = ran.counts;
-            sent_as_bytes(table, totals, ran.done, counts, sent, text)
-        }
+        Program::Up => up_as_bytes(table, totals, words, sent, text),
         Program::Down => {
             let ran = flow::down_some(words, sent);
             let counts = ran.counts;
             sent_as_bytes(table, totals, ran.done, counts, sent, text)
         }
+        Program::Panel => up_as_bytes(table, totals, words, sent, &mut text[..0]),
     }
 }
 
@@ -244,12 +260,31 @@ pub fn listing() {
 pub fn up() {
     let s = turns(Program::Up);
     let totals = s.totals;
-    summary::say(b"up", totals, is_cut(s));
+    summary::say_filter(b"up", totals, is_cut(s));
 }
 
 // The packets of standard input down.
 pub fn down() {
     let s = turns(Program::Down);
     let totals = s.totals;
-    summary::say(b"down", totals, is_cut(s));
+    summary::say_filter(b"down", totals, is_cut(s));
+}
+
+// Writes the lines of the channels that have keys down.
+fn show(table: Table) {
+    let mut text = [0u8; PANEL_BYTES];
+    let n = flow::panel(table, &mut text);
+    write_fails(&text, n);
+}
+
+// The keys that are down once the packets of standard input have gone up, from a fresh table. Where the
+// input could not be read to its end, none are shown.
+pub fn panel() {
+    let s = turns(Program::Panel);
+    let totals = s.totals;
+    if s.ended {
+        let table = s.table;
+        show(table);
+    }
+    summary::say_reader(b"panel", totals, is_cut(s));
 }

@@ -1,4 +1,4 @@
-// What a filter says at the end: one line, and none where nothing was refused and nothing cut.
+// What a program says at the end: one line, and none where nothing was refused and nothing cut.
 use flow::SORTS;
 use libc::STDERR_FILENO;
 use stream::BAD_DATA;
@@ -146,21 +146,42 @@ fn is_refused(counts: [u64; SORTS]) -> bool {
     any
 }
 
-// Says what was read and written, what was refused and whether the end was cut.
-pub(crate) fn say(name: &[u8], totals: Totals, cut: bool) {
-    let counts = totals.counts;
+// The name of a program, and the words that it read.
+fn reading(name: &[u8], read: u64) -> Line
+    ensures { λ r. ⌜ r .len ≤ 2 ^ 9 ⌝ }
+{
+    Line::empty()
+        .with(name)
+        .with(b": read ")
+        .with_number(read)
+        .with(b" words")
+}
+
+// Says the line, with what was refused and whether the end was cut, where there is either.
+fn say(line: Line, counts: [u64; SORTS], cut: bool)
+    requires { ⌜ line .len ≤ 2 ^ 9 ⌝ }
+{
     if !(is_refused(counts) | cut) {
         return;
     }
-    let read = Line::empty()
-        .with(name)
-        .with(b": read ")
-        .with_number(totals.read);
-    let written = read.with(b" words, wrote ").with_number(totals.written);
-    let refused = written.with_refusals(counts);
+    let refused = line.with_refusals(counts);
     if cut {
         refused.with(b"; cut packet at the end\n").write();
     } else {
         refused.with(b"\n").write();
     }
+}
+
+// What a filter says: the words read and those written.
+pub(crate) fn say_filter(name: &[u8], totals: Totals, cut: bool) {
+    let read = reading(name, totals.read);
+    let written = read.with(b", wrote ").with_number(totals.written);
+    let counts = totals.counts;
+    say(written, counts, cut);
+}
+
+// What a program says that writes no words: the words read.
+pub(crate) fn say_reader(name: &[u8], totals: Totals, cut: bool) {
+    let counts = totals.counts;
+    say(reading(name, totals.read), counts, cut);
 }

@@ -2,3 +2,4 @@ pub mod BoundLaws
 pub mod TableLoop
 pub mod ListLaws
 pub mod TallyLaws
+pub mod PanelLaws

@@ -1,7 +1,7 @@
 -- The line of a call: what one packet's line makes of the text; and the step that lists looks at its own packet alone, goes
 -- on only with a whole one, and stores the record as the call with the table does. Assumes nothing.
 use Prim.Native.Nat.{ℕ, _+_, _-_, _≤_}
-use mathlib.Core.Path.{_≡_, refl, sym, ap, _∙_}
+use mathlib.Core.Path.{_≡_, refl, sym, ap, ap₂, _∙_}
 use mathlib.Core.Bool.{Bool, true, false, cond}
 use mathlib.Core.List.{List, _∷_, _++_}
 use native.Mathlib.Omega.{arith}
@@ -10,55 +10,54 @@ use lib.Dec.{leb}
 use lib.ListN.{drop, getD, length, length-append, replicate, take}
 use lib.Seq.{sets-eq, take-at}
 use borrow.Author.Tests.{le-leb, leb-true}
-use Rattle.ground.proofs.Cases.{by-bool, choose}
 use Rattle.ground.proofs.StoreLaws.{written-none}
 use Rattle.ump.specs.Packet.{packet, size}
 use Rattle.ump.proofs.PacketLaws.{at-none, packet-four, packet-near}
 use Rattle.stream.specs.declared.Done.{Done}
-use Rattle.stream.specs.Answers.{cutPacket, noRoom, sent, takenIn}
-use Rattle.stream.specs.Call.{Call, answerOf, fit, leftOf, refused, sentOf, stopped, went}
+use Rattle.stream.specs.Answers.{cutPacket, noRoom, sent}
+use Rattle.stream.specs.Call.{Call, refused, sentOf, stopped, went}
 use Rattle.stream.specs.Report.{counting, placeTold, placing}
 use Rattle.stream.proofs.RunLoop.{Inside}
 use Rattle.screen.specs.Screen.{screen, screened}
 use Rattle.channel.specs.declared.Record.{Record}
 use Rattle.channel.specs.Record.{empty, wholeTable}
-use Rattle.voice.specs.declared.RecordAndReport.{RecordAndReport}
-use Rattle.voice.specs.Packet.{callUp, changesAt, packetUp}
-use Rattle.voice.specs.Turn.{changedBy, next, outputOf, turned}
-use Rattle.voice.proofs.PacketLaws.{few-up, refused-up, unchanged-up}
+use Rattle.flow.specs.declared.RecordAndReport.{RecordAndReport}
+use Rattle.effect.specs.Effect.{effected}
+use Rattle.ump.specs.Word.{data1}
+use Rattle.voice.specs.declared.EffectAndReport.{EffectAndReport}
+use Rattle.voice.specs.Packet.{callUp, effectAt, packetUp}
+use Rattle.voice.specs.Turn.{next, outputOf, turned}
+use Rattle.voice.proofs.PacketLaws.{effect-at, few-up}
 use Rattle.text.specs.Lines.{lineOf, placeAfter, withRow}
 use Rattle.text.proofs.LineLaws.{line-length}
 use Rattle.table.specs.Table.{stored, tableUp}
 use Rattle.table.proofs.TableLaws.{placeAt, table-at, table-inside, table-near}
-use Rattle.flow.specs.Listing.{lineUp, listUp, listed}
+use Rattle.flow.specs.Listing.{lineUp, listUp, listed, recordTurned}
 
 -- the four words that a call is made into, before it
 abbrev pub four₀ : List ℕ
 four₀ = replicate 4 0
 
 module _ (d : Done) (p text : List ℕ) (r : Record) (x : RecordAndReport) (four : List ℕ) where
-  abbrev may : Bool
-  may = changesAt p
-
   -- what the call c at the packet p says of itself and of the four words, and what its line then makes of the text
   abbrev pub Calls : Call Record → Type 0
-  Calls c = (x ≡ turned (counting sent (d .read) 0) p four₀ r may c) × (four ≡ outputOf (counting sent (d .read) 0) four₀ c)
+  Calls c = (x ≡ recordTurned (counting sent (d .read) 0) p four₀ r c) × (four ≡ outputOf (counting sent (d .read) 0) four₀ c)
 
   abbrev pub Lists : Call Record → RecordAndReport → List ℕ → Type 0
-  Lists c y text′ = (y ≡ turned d p text r may (listed p c)) × (text′ ≡ outputOf d text (listed p c))
+  Lists c y text′ = (y ≡ recordTurned d p text r (listed p c)) × (text′ ≡ outputOf d text (listed p c))
 
   abbrev pub Told : ℕ → RecordAndReport
-  Told n = record { after = x .after; changes = x .changes; done = placing (x .done .answer) (x .done .place) (x .done .read) n }
+  Told n = record { after = x .after; done = placing (x .done .answer) (x .done .place) (x .done .read) n }
 
   -- what is then told: no room for the line, or the place after it
   abbrev pub Lined : Call Record → ℕ → List ℕ → Type 0
   Lined c end text′ =
-      (end ≡ d .written → Lists c (record { after = r; changes = false; done = counting noRoom (d .read) (d .written) }) text′)
+      (end ≡ d .written → Lists c (record { after = r; done = counting noRoom (d .read) (d .written) }) text′)
       × ((end ≡ d .written → ⊥) → Lists c (Told end) text′)
 
   -- a call that goes on: its words stand in the four
   went-four : (a : ℕ) (ws : List ℕ) (v : Record) → length ws ≤ 4 → Calls (went a ws v)
-      → (x ≡ record { after = v; changes = changedBy may (went a ws v); done = placing a (placeTold a p) (d .read + length p) (length ws) })
+      → (x ≡ record { after = v; done = placing a (placeTold a p) (d .read + length p) (length ws) })
       × (four ≡ ws ++ drop (length ws) four₀)
   went-four a ws v f e = rw (le-leb (length ws) 4 f, zero-add (length ws)) at e
 
@@ -105,8 +104,8 @@ module _ (d : Done) (p text : List ℕ) (r : Record) (x : RecordAndReport) (four
       room = length text - to
 
       go : (b : Bool) → leb (length line) room ≡ b → (end ≡ cond b (to + length line) to) × (text′ ≡ withRow text to line)
-          → (end ≡ to → Lists (went a ws v) (record { after = r; changes = false; done = counting noRoom (d .read) to }) text′)
-          × ((end ≡ to → ⊥) → Lists (went a ws v) (record { after = v; changes = changedBy may (went a ws v); done = placing a (placeTold a p) (d .read + length p) end }) text′)
+          → (end ≡ to → Lists (went a ws v) (record { after = r; done = counting noRoom (d .read) to }) text′)
+          × ((end ≡ to → ⊥) → Lists (went a ws v) (record { after = v; done = placing a (placeTold a p) (d .read + length p) end }) text′)
       go true b m =
           let h = leb-true (length line) room b in
           let q = line-length a (length p) (placeTold a p) ws in
@@ -118,10 +117,21 @@ module _ (d : Done) (p text : List ℕ) (r : Record) (x : RecordAndReport) (four
           let k = rw b at (m .1) in
           (λ z. rw b (rw (add-zero (d .read), add-zero to), k ∙ sym (written-none to text)), λ z. absurd (z (m .0)))
 
+-- a call with the record that has its effect
+pub call-made : (d : Done) (ws four : List ℕ) (r : Record) (x : EffectAndReport) (a : Record)
+    → x ≡ turned d (next ws d) four r (effectAt (next ws d)) (packetUp r (next ws d))
+    → a ≡ effected r (x .effect) (x .after) (data1 (getD ws (d .read) 0))
+    → record { after = a; done = x .done } ≡ recordTurned d (next ws d) four r (packetUp r (next ws d))
+call-made d ws four r x a e f =
+    ap₂ (λ (u : Record) (v : Done). record { after = u; done = v })
+    (f ∙ ap (λ (y : EffectAndReport). effected r (y .effect) (y .after) (data1 (getD ws (d .read) 0))) e
+    ∙ effect-at (length four - d .written) r ws (d .read))
+    (ap (λ (y : EffectAndReport). y .done) e)
+
 -- the call that the code makes after the report q
 pub calls-at : (ws : List ℕ) (d q : Done) (text : List ℕ) (r : Record) (x : RecordAndReport) (four : List ℕ)
     → q ≡ counting sent (d .read) 0
-    → (x ≡ turned q (next ws q) four₀ r (changesAt (next ws q)) (packetUp r (next ws q)))
+    → (x ≡ recordTurned q (next ws q) four₀ r (packetUp r (next ws q)))
     × (four ≡ outputOf q four₀ (packetUp r (next ws q)))
     → Calls d (next ws d) text r x four (packetUp r (next ws d))
 calls-at ws d q text r x four e h = rw e at h
@@ -160,16 +170,3 @@ pub list-own : (ws : List ℕ) (t : List Record) (i : ℕ) → length t ≡ whol
     → listUp t (drop i ws) ≡ stored t (placeAt ws i) (lineUp (getD t (placeAt ws i) empty) (packet (drop i ws)))
 unfolding listUp
 list-own ws t i l = rw (up-own ws t i l) (listed-stored _ t (placeAt ws i) (packetUp (getD t (placeAt ws i) empty) (packet (drop i ws))))
-
--- a record that is not reported as changed is as it was
-pub list-still : (room : ℕ) (r : Record) (p : List ℕ) → changedBy (changesAt p) (fit room (lineUp r p)) ≡ false
-    → leftOf (room, r) (fit room (lineUp r p)) .1 ≡ r
-list-still room r p = go (packetUp r p) (unchanged-up r p) (refused-up r p)
-  where
-    go : (c : Call Record) → (changesAt p ≡ false → leftOf r c ≡ r) → (leb (answerOf c) takenIn ≡ false → leftOf r c ≡ r)
-        → changedBy (changesAt p) (fit room (listed p c)) ≡ false → leftOf (room, r) (fit room (listed p c)) .1 ≡ r
-    go (stopped a) f g = λ _. refl
-    go (went a ws u) f g =
-        choose (λ (c : Call (ℕ × Record)). changedBy (changesAt p) c ≡ false → leftOf (room, r) c .1 ≡ r)
-        (leb (length (lineOf a (length p) (placeTold a p) ws)) room)
-        (λ _ h. by-bool (leb a takenIn) (λ e. f (rw e at h)) g) (λ _ _. refl)

@@ -2,13 +2,10 @@
 -- place, and what that makes of the run so far. Assumes nothing.
 use Prim.Native.Nat.{ℕ, zero, suc, _+_, _-_, _<_}
 use mathlib.Core.Path.{_≡_, refl, sym, ap, _∙_, subst}
-use mathlib.Core.Bool.{true, false}
-use mathlib.Core.Logic.{_⊎_, ⊎-elim}
 use mathlib.Core.List.{List, [], _∷_, map}
 use native.Mathlib.Omega.{arith}
 use native.Mathlib.Nat.{le-of-suc-le-suc, not-suc-le-zero}
 use lib.ListN.{drop, getD, length, length-map, length-set, set, take}
-use lib.Seq.{set-getD}
 use borrow.Author.Tests.{eq-eqb}
 use Rattle.ground.specs.Store.{atStart}
 use Rattle.ump.specs.Packet.{cut, packet, size}
@@ -20,9 +17,9 @@ use Rattle.stream.specs.Run.{run}
 use Rattle.stream.proofs.RunLoop.{DidRun, Inside, Runs, turn}
 use Rattle.channel.specs.declared.Record.{Record}
 use Rattle.channel.specs.Record.{empty, wholeTable}
-use Rattle.voice.specs.declared.RecordAndReport.{RecordAndReport}
-use Rattle.voice.specs.Packet.{changesAt}
-use Rattle.voice.specs.Turn.{changedBy, next, outputOf, turned}
+use Rattle.flow.specs.declared.RecordAndReport.{RecordAndReport}
+use Rattle.voice.specs.Turn.{next, outputOf}
+use Rattle.flow.specs.Listing.{recordTurned}
 use Rattle.table.specs.Table.{runBy, stored, tableAfter}
 use Rattle.table.proofs.TableLaws.{placeAt, with-table}
 
@@ -36,10 +33,6 @@ getD-any [] i d e h = absurd (not-suc-le-zero h)
 getD-any (x ∷ t) zero d e h = refl
 getD-any (x ∷ t) (suc i) d e h = getD-any t i d e (le-of-suc-le-suc h)
 
--- the record after a call stands in its place, where it may have changed, or the table is as it was
-abbrev pub PutBack : RecordAndReport → List Record → ℕ → List Record → Type 0
-PutBack x t k t′ = ((x .changes ≡ true) × (t′ ≡ set t k (x .after))) ⊎ ((x .changes ≡ false) × (t′ ≡ t))
-
 module _
     (act : Record → List ℕ → Call Record)
     (step : List Record → List ℕ → Call (List Record))
@@ -47,8 +40,6 @@ module _
     (inside : (t : List Record) (w : ℕ) (s : List ℕ) → Inside (w ∷ s) (step t (w ∷ s)))
     (own : (ws : List ℕ) (t : List Record) (i : ℕ) → length t ≡ wholeTable
     → step t (drop i ws) ≡ stored t (placeAt ws i) (act (getD t (placeAt ws i) empty) (packet (drop i ws))))
-    (still : (room : ℕ) (r : Record) (p : List ℕ) → changedBy (changesAt p) (fit room (act r p)) ≡ false
-    → leftOf (room, r) (fit room (act r p)) .1 ≡ r)
     (t₀ : List Record)
     (ws out₀ : List ℕ)
   where
@@ -77,7 +68,7 @@ module _
           → DidRun (run (within step) (length out₀, t₀) (cut ws)) out₀ (x .done .answer) (x .done .read) (x .done .written) t′ after)
 
       own-turn : (x : RecordAndReport) (t′ : List Record) (after : List ℕ)
-          → x ≡ turned (counting sent i n) p out r (changesAt p) (act r p) → after ≡ outputOf (counting sent i n) out (act r p)
+          → x ≡ recordTurned (counting sent i n) p out r (act r p) → after ≡ outputOf (counting sent i n) out (act r p)
           → t′ ≡ set t (placeAt ws i) (x .after) → After x t′ after
       unfolding within
       own-turn x t′ after ex eo et =
@@ -104,20 +95,15 @@ module _
       -- the same from what the code says, which makes the call after the report q, and reads and stores the record at k
       pub table-turn : (q : Done) (k : ℕ) (d : Record) (x : RecordAndReport) (t′ : List Record) (after : List ℕ)
           → q ≡ counting sent i n → k ≡ placeAt ws i → k < wholeTable
-          → (x ≡ turned q (next ws q) out (getD t k d) (changesAt (next ws q)) (act (getD t k d) (next ws q)))
+          → (x ≡ recordTurned q (next ws q) out (getD t k d) (act (getD t k d) (next ws q)))
           × (after ≡ outputOf q out (act (getD t k d) (next ws q)))
-          → PutBack x t k t′ → After x t′ after
+          → t′ ≡ set t k (x .after) → After x t′ after
       table-turn q k d x t′ after eq ek hk e back =
           let same : getD t k d ≡ r =
           getD-any t k d empty (subst (λ (l : ℕ). k < l) (sym (inv .1)) hk) ∙ ap (λ (j : ℕ). getD t j empty) ek in
-          let f : (x ≡ turned (counting sent i n) p out r (changesAt p) (act r p))
+          let f : (x ≡ recordTurned (counting sent i n) p out r (act r p))
           × (after ≡ outputOf (counting sent i n) out (act r p)) = rw (eq, same) at e in
-          let kept : x .changes ≡ false → x .after ≡ r =
-          λ z. ap (λ (y : RecordAndReport). y .after) (f .0)
-          ∙ still room r p (sym (ap (λ (y : RecordAndReport). y .changes) (f .0)) ∙ z) in
-          own-turn x t′ after (f .0) (f .1)
-          (⊎-elim (λ b. b .1 ∙ ap (λ (j : ℕ). set t j (x .after)) ek)
-          (λ b. b .1 ∙ sym (rw (kept (b .0)) (set-getD t (placeAt ws i) empty))) back)
+          own-turn x t′ after (f .0) (f .1) (back ∙ ap (λ (j : ℕ). set t j (x .after)) ek)
 
     -- what is told of a run that is done, from a whole table
     pub run-told : (a i n : ℕ) (t : List Record) (out : List ℕ) → length t₀ ≡ wholeTable

@@ -1,15 +1,18 @@
 // A buffer's worth of a stream: the packets of some words, going up, down or into lines. The table
 // goes in and comes out by value, once for each buffer, so whoever keeps it needs no lent slice of
-// records.
+// records. The panel is made of the table alone.
 //
-// No function has a `requires`. Each says by the run of the definitions what it reports, what table
+// No function has a `requires`. A run says by the run of the definitions what it reports, what table
 // it leaves and what the output holds after, on every input; and how often each sort of packet came is
-// a count over the words that were read.
+// a count over the words that were read. The panel says by its lines what a text of any length holds.
+mod lamps;
 mod lines;
 mod tally;
 
 use channel::RECORDS;
 use channel::Record;
+pub use lamps::PANEL_BYTES;
+pub use lamps::panel;
 pub use lines::list_some;
 use stream::Done;
 use table::run_from;
@@ -50,6 +53,12 @@ pub struct ReportAndCounts {
 pub struct LinesReport {
     pub table: Table,
     pub done: Done,
+}
+
+// A call up: the record that it leaves, and the report.
+struct RecordAndReport {
+    after: Record,
+    done: Done,
 }
 
 // The packets of the words, going up, until one stops the run.

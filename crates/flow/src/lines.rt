@@ -1,13 +1,14 @@
 // The run up into lines: a line for each packet in place of the words that it sends.
 use crate::LinesReport;
+use crate::RecordAndReport;
 use crate::Table;
 use channel::Record;
+use effect::effected;
 use stream::Done;
 use stream::NO_ROOM;
 use stream::SENT;
 use stream::report;
 use stream::report_place;
-use voice::RecordAndReport;
 ghost use mathlib.Core.Path.{_≡_};
 ghost use Prim.Native.Nat.{_<_};
 ghost use lib.ListN.{length};
@@ -15,10 +16,10 @@ ghost use Rattle.ground.specs.Store.{atStart};
 ghost use Rattle.ump.specs.Word.{placeOf};
 ghost use Rattle.stream.specs.Report.{placing, reported};
 ghost use Rattle.channel.specs.Record.{wholeTable};
-ghost use Rattle.voice.specs.Packet.{changesAt};
-ghost use Rattle.voice.specs.Turn.{next, outputOf, turned};
+ghost use Rattle.voice.specs.Packet.{packetUp};
+ghost use Rattle.voice.specs.Turn.{next, outputOf};
 ghost use Rattle.table.specs.Table.{tableAfter};
-ghost use Rattle.flow.specs.Listing.{lineUp, runLines};
+ghost use Rattle.flow.specs.Listing.{lineUp, recordTurned, runLines};
 
 // Where a packet's record stands, by its first word.
 fn record_place(w: u32) -> usize
@@ -32,7 +33,6 @@ fn record_place(w: u32) -> usize
 fn told(turned: RecordAndReport, written: usize) -> RecordAndReport
     ensures { λ r. ⌜ r ≡ record {
       after = turned .after;
-      changes = turned .changes;
       done = placing (turned .done .answer) (turned .done .place) (turned .done .read) written;
     } ⌝ }
 {
@@ -40,22 +40,36 @@ fn told(turned: RecordAndReport, written: usize) -> RecordAndReport
     let done = turned.done;
     RecordAndReport {
         after,
-        changes: turned.changes,
         done: report_place(done.answer, done.place, done.read, written),
     }
 }
 
+// The call at the packet that is next, into four words, with the record that it leaves.
+fn called(words: &[u32], past: Done, record: Record, four: &mut [u32]) -> RecordAndReport
+    ensures turn { λ r. ⌜ r ≡ recordTurned past (next (now (words .entry)) past) (now (four .entry)) «record»
+        (packetUp «record» (next (now (words .entry)) past)) ⌝ }
+    ensures output { λ _. ⌜ now (four .exit)
+        ≡ outputOf past (now (four .entry)) (packetUp «record» (next (now (words .entry)) past)) ⌝ }
+{
+    let turned = voice::up(words, past, record, four);
+    let memory = turned.after;
+    let key = ump::data1(ump::word_at(words, past.read));
+    let after = effected(record, turned.effect, memory, key);
+    let done = turned.done;
+    RecordAndReport { after, done }
+}
+
 // The packet that is next in the words, with its record, and its line after what was written so far.
 fn list_one(words: &[u32], past: Done, record: Record, text: &mut [u8]) -> RecordAndReport
-    ensures turn { λ r. ⌜ r ≡ turned past (next (now (words .entry)) past) (now (text .entry)) «record»
-        (changesAt (next (now (words .entry)) past)) (lineUp «record» (next (now (words .entry)) past)) ⌝ }
+    ensures turn { λ r. ⌜ r ≡ recordTurned past (next (now (words .entry)) past) (now (text .entry)) «record»
+        (lineUp «record» (next (now (words .entry)) past)) ⌝ }
     ensures text { λ _. ⌜ now (text .exit)
         ≡ outputOf past (now (text .entry)) (lineUp «record» (next (now (words .entry)) past)) ⌝ }
 {
     let read = past.read;
     let to = past.written;
     let mut four = [0u32; 4];
-    let turned = voice::up(words, report(SENT, read, 0), record, &mut four);
+    let turned = called(words, report(SENT, read, 0), record, &mut four);
     let done = turned.done;
     if done.read == read {
         return told(turned, to);
@@ -73,7 +87,6 @@ fn list_one(words: &[u32], past: Done, record: Record, text: &mut [u8]) -> Recor
         let done = report(NO_ROOM, read, to);
         return RecordAndReport {
             after: record,
-            changes: false,
             done,
         };
     }
@@ -97,9 +110,7 @@ pub fn list_some(table: Table, words: &[u32], text: &mut [u8]) -> LinesReport
         let listed = list_one(words, report(SENT, read, written), records[i], text);
         let after = listed.after;
         let done = listed.done;
-        if listed.changes {
-            records[i] = after;
-        }
+        records[i] = after;
         if done.read == read {
             let table = Table { records };
             let done = report(done.answer, read, done.written);

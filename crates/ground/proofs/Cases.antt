@@ -21,7 +21,11 @@ IsTrue false = ⊥
 pub not-both {ℓ} : {X : Type ℓ} → false ≡ true → X
 not-both e = absurd (subst IsTrue (sym e) tt)
 
--- what a walk learns where a test fails
+-- what a walk learns where a test holds, and where it fails
+pub held : (b : Bool) → T b → b ≡ true
+held true h = refl
+held false h = absurd h
+
 pub not-held : (b : Bool) → T (not b) → b ≡ false
 not-held true h = absurd h
 not-held false h = refl

@@ -1,2 +1,3 @@
 pub mod LiftLaws
 pub mod WayLaws
+pub mod EffectLaws

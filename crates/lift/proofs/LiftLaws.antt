@@ -1,4 +1,4 @@
--- Laws of going up: a message that is read fits, and keeps a record sound; which messages change no record; and what
+-- Laws of going up: a message that is read fits, and keeps a memory sound; and what
 -- going up can send. Assumes nothing.
 use Prim.Native.Nat.{ℕ, _+_, _*_, _%_, _^_, _<_, _≤_}
 use mathlib.Core.Path.{_≡_, refl, sym, ap, _∙_}
@@ -12,9 +12,9 @@ use Rattle.ground.proofs.Cases.{by-bool, choose, not-both}
 use Rattle.scale.specs.Scale.{down, up}
 use Rattle.scale.proofs.Laws.{down-up, proved-core-rules, up-lt}
 use Rattle.ump.specs.Word.{status}
-use Rattle.channel.specs.declared.Record.{Record}
-use Rattle.channel.specs.Record.{dataHighPresent, missing, number, present, registered, sound}
-use Rattle.channel.proofs.Sound.{opened, parts, proved-stays-sound}
+use Rattle.memory.specs.declared.Memory.{Memory}
+use Rattle.memory.specs.Memory.{dataHighPresent, missing, number, present, registered, sound}
+use Rattle.memory.proofs.Sound.{opened, parts, proved-stays-sound}
 use Rattle.message.specs.Message.{Bank, Fits1, Fits2, Midi1, Midi2, assignable2, bank, channelPressure1}
 use Rattle.message.specs.Message.{channelPressure2, controlChange1, controlChange2, noBank, noteOff1, noteOff2, noteOn1}
 use Rattle.message.specs.Message.{noteOn2, part, pitchBend1, pitchBend2, polyPressure1, polyPressure2, programChange1}
@@ -22,8 +22,9 @@ use Rattle.message.specs.Message.{programChange2, read1, registered2}
 use Rattle.lift.specs.declared.Control.{Control}
 use Rattle.lift.specs.declared.Control.the-variants.{AssignableBank, AssignableIndex, BankHigh, BankLow, DataHigh}
 use Rattle.lift.specs.declared.Control.the-variants.{DataLow, Nothing, Plain, RegisteredBank, RegisteredIndex, Reset}
-use Rattle.lift.specs.Lift.{Lifted, addressed2, banked2, changes, changing, controlOf, controlled, dataLow}
-use Rattle.lift.specs.Lift.{lift, reset}
+use Rattle.effect.specs.Effect.{leaves}
+use Rattle.lift.specs.Lift.{Lifted, addressed2, banked2, channelMode, controlOf, controlled, dataLow}
+use Rattle.lift.specs.Lift.{lift, plainEffect, reset}
 
 pub read1-fits : (w : ℕ) → Fits1 (read1 w)
 unfolding read1
@@ -34,30 +35,6 @@ read1-fits w =
     (λ _. choose Fits1 (eqb (status w) 11) (λ _. omega arith)
     (λ _. choose Fits1 (eqb (status w) 12) (λ _. omega arith)
     (λ _. choose Fits1 (eqb (status w) 13) (λ _. omega arith) (λ _. omega arith))))))
-
--- what cannot change a record leaves it as it was
-pub unchanging : (r : Record) (m : Midi1) → changes m ≡ false → lift r m .after ≡ r
-unfolding lift changes changing controlled dataLow
-unchanging r (noteOff1 n v) h = refl
-unchanging r (noteOn1 n v) h = refl
-unchanging r (polyPressure1 n v) h = refl
-unchanging r (controlChange1 i v) h = go (controlOf i) h
-  where
-    go : (k : Control) → changing k ≡ false → controlled k r i v .after ≡ r
-    go BankHigh h = not-both (sym h)
-    go BankLow h = not-both (sym h)
-    go RegisteredBank h = not-both (sym h)
-    go RegisteredIndex h = not-both (sym h)
-    go AssignableBank h = not-both (sym h)
-    go AssignableIndex h = not-both (sym h)
-    go DataHigh h = not-both (sym h)
-    go DataLow h = choose (λ (x : Lifted). x .after ≡ r) (dataHighPresent r) (λ _. refl) (λ _. refl)
-    go Nothing h = refl
-    go Reset h = not-both (sym h)
-    go Plain h = refl
-unchanging r (programChange1 p) h = not-both (sym h)
-unchanging r (channelPressure1 v) h = refl
-unchanging r (pitchBend1 v) h = refl
 
 -- a controller that has a form of its own is plain, but for the one that resets all others
 pub plain-control : (i : ℕ) → part i ≡ false → eqb i reset ≡ false → controlOf i ≡ Plain
@@ -80,12 +57,20 @@ plain-control i h n =
     no : (k : ℕ) → part k ≡ true → eqb i k ≡ false
     no k t = ne-eqb i k (λ e. not-both (sym h ∙ ap part e ∙ t))
 
+-- outside the first four channel mode messages it is none of them
+pub no-mode : (i k : ℕ) → channelMode i ≡ false → channelMode k ≡ true → eqb i k ≡ false
+no-mode i k h t = ne-eqb i k (λ e. not-both (sym h ∙ ap channelMode e ∙ t))
+
+pub no-effect : (i : ℕ) → channelMode i ≡ false → plainEffect i ≡ leaves
+unfolding plainEffect
+no-effect i h = rw (no-mode i 120 h refl, no-mode i 123 h refl)
+
 reset-control : (i : ℕ) → eqb i reset ≡ true → controlOf i ≡ Reset
 unfolding controlOf
 reset-control i e = rw (eqb-true i reset e)
 
 -- it is sent as itself, and the bank stays
-pub own-control : (r : Record) (i v : ℕ) → part i ≡ false
+pub own-control : (r : Memory) (i v : ℕ) → part i ≡ false
     → (controlled (controlOf i) r i v .sends ≡ some (controlChange2 i (up 7 32 v)))
     × (banked2 (controlled (controlOf i) r i v .after) ≡ banked2 r)
 unfolding controlled banked2
@@ -165,9 +150,9 @@ abbrev pub IfSome : {A : Type 0} → (A → Type 0) → Option A → Type 0
 IfSome P none = Unit {0}
 IfSome P (some x) = P x
 
--- with a sound record
-module _ (r : Record) (ok : sound r ≡ true) where
-  -- what is sent to the record's address
+-- with a sound memory
+module _ (r : Memory) (ok : sound r ≡ true) where
+  -- what is sent to the memory's address
   data-low-upward : (v : ℕ) → v ≤ 127 → IfSome Upward (dataLow r v .sends)
   unfolding dataLow addressed2
   data-low-upward v h =

@@ -9,21 +9,21 @@ use borrow.Author.Tests.{eqb-true}
 use Rattle.ground.proofs.Cases.{by-bool}
 use Rattle.scale.specs.Scale.{up}
 use Rattle.ump.specs.Word.{data1, data2, status}
-use Rattle.channel.specs.declared.Record.{Record}
+use Rattle.memory.specs.declared.Memory.{Memory}
 use Rattle.message.specs.Message.{first2, read1, second2}
-use Rattle.lift.specs.Lift.{changes, lift, shownStatus}
+use Rattle.lift.specs.Lift.{effectOf, lift, shownStatus}
 use Rattle.lift.specs.Values.{messageIn, noteIn}
 
 pub bend-way : (w : ℕ) → (data2 w * 2 ^ 7 + data1 w) % 2 ^ 14 ≡ data2 w * 2 ^ 7 + data1 w
 bend-way w = omega arith
 
-module _ (w : ℕ) (r : Record) where
+module _ (w : ℕ) (r : Memory) where
   off-way : status w ≡ 8 → noteIn w r (status w) ≡ messageIn w r (read1 w)
-  unfolding read1 lift changes first2 second2 shownStatus
+  unfolding read1 lift effectOf first2 second2 shownStatus
   off-way e = rw e
 
   on-way : status w ≡ 9 → noteIn w r (status w) ≡ messageIn w r (read1 w)
-  unfolding read1 lift changes first2 second2 shownStatus up
+  unfolding read1 lift effectOf first2 second2 shownStatus up
   on-way e = rw e (by-bool (eqb (data2 w) 0) (λ z. rw (z, eqb-true (data2 w) 0 z)) (λ z. rw z))
 
   pub note-way : (eqb (status w) 8 || eqb (status w) 9) ≡ true → noteIn w r (status w) ≡ messageIn w r (read1 w)

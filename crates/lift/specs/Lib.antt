@@ -1,2 +1,3 @@
 pub mod Lift
 pub mod Values
+pub mod Played

@@ -1,13 +1,14 @@
--- Going up (RULES 6; 01 "The channel record"; 004 D.3): of a record and a MIDI 1.0 message, the record after it and a
+-- Going up (RULES 6; 01 "The channel record"; 004 D.3): of a memory and a MIDI 1.0 message, the memory after it and a
 -- MIDI 2.0 message or none.
 use Prim.Native.Nat.{ℕ, _+_, _*_, _%_, _^_}
 use mathlib.Core.Bool.{Bool, true, false, cond, _&&_, _||_}
 use mathlib.Core.Option.{Option, none, some}
-use lib.Dec.{eqb}
+use lib.Dec.{eqb, leb}
 use Rattle.scale.specs.Scale.{up}
-use Rattle.channel.specs.declared.Record.{Record}
-use Rattle.channel.specs.Record.{assignable, dataHighPresent, present, registered, withAddressBank, withAddressIndex}
-use Rattle.channel.specs.Record.{withAddressClosed, withBankHigh, withBankLow, withBankSpent, withDataHigh}
+use Rattle.memory.specs.declared.Memory.{Memory}
+use Rattle.memory.specs.Memory.{assignable, dataHighPresent, present, registered, withAddressBank, withAddressIndex}
+use Rattle.memory.specs.Memory.{withAddressClosed, withBankHigh, withBankLow, withBankSpent, withDataHigh}
+use Rattle.effect.specs.Effect.{leaves, presses, releases, releasesAll, remembers}
 use Rattle.lift.specs.declared.Control.{Control}
 use Rattle.lift.specs.declared.Control.the-variants.{BankHigh, BankLow, RegisteredBank, RegisteredIndex}
 use Rattle.lift.specs.declared.Control.the-variants.{AssignableBank, AssignableIndex, DataHigh, DataLow}
@@ -36,33 +37,33 @@ controlOf i =
     (cond (eqb i reset) Reset Plain)))))))))
 
 pub record Lifted : Type 0 where
-  pub after : Record
+  pub after : Memory
   pub sends : Option Midi2
 
 -- the message is taken in, and nothing is sent
-abbrev pub quiet : Record → Lifted
+abbrev pub quiet : Memory → Lifted
 quiet r = record { after = r; sends = none }
 
-abbrev pub speaks : Record → Midi2 → Lifted
+abbrev pub speaks : Memory → Midi2 → Lifted
 speaks r m = record { after = r; sends = some m }
 
--- the message to the record's address
-unfoldable pub addressed2 : Record → ℕ → Midi2
+-- the message to the memory's address
+unfoldable pub addressed2 : Memory → ℕ → Midi2
 addressed2 r v =
     cond (eqb (r .kind) registered) (registered2 (r .«address_bank») (r .«address_index») v)
     (assignable2 (r .«address_bank») (r .«address_index») v)
 
--- Control change 38 (RULES 6.4): beside data high it completes a 14-bit value, which goes to the record's address; the
--- record is not changed. Without data high it does nothing.
-unfoldable pub dataLow : Record → ℕ → Lifted
+-- Control change 38 (RULES 6.4): beside data high it completes a 14-bit value, which goes to the memory's address; the
+-- memory is not changed. Without data high it does nothing.
+unfoldable pub dataLow : Memory → ℕ → Lifted
 dataLow r v =
     cond (dataHighPresent r) (speaks r (addressed2 r (up 14 32 ((r .«data_high» * 2 ^ 7 + v) % 2 ^ 14)))) (quiet r)
 
 -- a controller that is sent as itself
-abbrev pub plain : Record → ℕ → ℕ → Lifted
+abbrev pub plain : Memory → ℕ → ℕ → Lifted
 plain r i v = speaks r (controlChange2 i (up 7 32 v))
 
-unfoldable pub controlled : Control → Record → ℕ → ℕ → Lifted
+unfoldable pub controlled : Control → Memory → ℕ → ℕ → Lifted
 controlled BankHigh r i v = quiet (withBankHigh r v)
 controlled BankLow r i v = quiet (withBankLow r v)
 controlled RegisteredBank r i v = quiet (withAddressBank registered r v)
@@ -76,13 +77,13 @@ controlled Reset r i v = plain (withAddressClosed r) i v
 controlled Plain r i v = plain r i v
 
 -- the bank that goes with a program: both halves, or none (RULES 6.5)
-unfoldable pub banked2 : Record → Bank
+unfoldable pub banked2 : Memory → Bank
 banked2 r =
     cond (present (r .«bank_high») && present (r .«bank_low»)) (bank (r .«bank_high») (r .«bank_low»)) noBank
 
 -- Notes (RULES 6.1), pressure and bend (6.2), control changes (6.3), program changes (6.5). A Note On without velocity
 -- is a Note Off.
-unfoldable pub lift : Record → Midi1 → Lifted
+unfoldable pub lift : Memory → Midi1 → Lifted
 lift r (noteOff1 n v) = speaks r (noteOff2 n (up 7 16 v))
 lift r (noteOn1 n v) = speaks r (cond (eqb v 0) (noteOff2 n 0) (noteOn2 n (up 7 16 v)))
 lift r (polyPressure1 n v) = speaks r (polyPressure2 n (up 7 32 v))
@@ -91,28 +92,39 @@ lift r (programChange1 p) = speaks (withBankSpent r) (programChange2 p (banked2 
 lift r (channelPressure1 v) = speaks r (channelPressure2 (up 7 32 v))
 lift r (pitchBend1 v) = speaks r (pitchBend2 (up 14 32 v))
 
--- whether a control change, and whether a message, may change the record at all
-unfoldable pub changing : Control → Bool
-changing BankHigh = true
-changing BankLow = true
-changing RegisteredBank = true
-changing RegisteredIndex = true
-changing AssignableBank = true
-changing AssignableIndex = true
-changing DataHigh = true
-changing DataLow = false
-changing Nothing = false
-changing Reset = true
-changing Plain = false
+-- the controllers that release every key; 121, which resets controllers, is none of them (RULES 5.7; 02 M-103)
+abbrev pub endsNotes : ℕ → Bool
+endsNotes i = eqb i 120 || eqb i 123
 
-unfoldable pub changes : Midi1 → Bool
-changes (noteOff1 n v) = false
-changes (noteOn1 n v) = false
-changes (polyPressure1 n v) = false
-changes (controlChange1 i v) = changing (controlOf i)
-changes (programChange1 p) = true
-changes (channelPressure1 v) = false
-changes (pitchBend1 v) = false
+-- the first four channel mode messages
+abbrev pub channelMode : ℕ → Bool
+channelMode i = leb 120 i && leb i 123
+
+-- what a control change, and what a message does to its channel's record
+unfoldable pub plainEffect : ℕ → ℕ
+plainEffect i = cond (endsNotes i) releasesAll leaves
+
+unfoldable pub controlEffect : Control → ℕ → ℕ
+controlEffect BankHigh i = remembers
+controlEffect BankLow i = remembers
+controlEffect RegisteredBank i = remembers
+controlEffect RegisteredIndex i = remembers
+controlEffect AssignableBank i = remembers
+controlEffect AssignableIndex i = remembers
+controlEffect DataHigh i = remembers
+controlEffect DataLow i = leaves
+controlEffect Nothing i = leaves
+controlEffect Reset i = remembers
+controlEffect Plain i = plainEffect i
+
+unfoldable pub effectOf : Midi1 → ℕ
+effectOf (noteOff1 n v) = releases
+effectOf (noteOn1 n v) = cond (eqb v 0) releases presses
+effectOf (polyPressure1 n v) = leaves
+effectOf (controlChange1 i v) = controlEffect (controlOf i) i
+effectOf (programChange1 p) = remembers
+effectOf (channelPressure1 v) = leaves
+effectOf (pitchBend1 v) = leaves
 
 -- the status that a note is sent with
 unfoldable pub shownStatus : ℕ → ℕ → ℕ

@@ -6,32 +6,33 @@ use Rattle.scale.specs.Scale.{up}
 use Rattle.ump.specs.declared.Group.{Group}
 use Rattle.ump.specs.declared.Channel.{Channel}
 use Rattle.ump.specs.Word.{channelOf, data1, data2, groupOf, voice2}
-use Rattle.channel.specs.declared.Record.{Record}
+use Rattle.memory.specs.declared.Memory.{Memory}
 use Rattle.lift.specs.declared.UpwardMessage.{UpwardMessage}
 use Rattle.message.specs.Message.{Midi1, Midi2, first2, second2, voiceWord}
-use Rattle.lift.specs.Lift.{Lifted, changes, lift, shownStatus}
+use Rattle.lift.specs.Lift.{Lifted, effectOf, lift, shownStatus}
 
 -- nothing to send, or two words
-abbrev pub silent : Record → Bool → UpwardMessage
-silent r changes = record { after = r; changes = changes; sends = false; first = 0; second = 0 }
+abbrev pub silent : Memory → ℕ → UpwardMessage
+silent r e = record { after = r; effect = e; sends = false; first = 0; second = 0 }
 
-abbrev pub saying : Record → Bool → ℕ → ℕ → UpwardMessage
-saying r changes a b = record { after = r; changes = changes; sends = true; first = a; second = b }
+abbrev pub saying : Memory → ℕ → ℕ → ℕ → UpwardMessage
+saying r e a b = record { after = r; effect = e; sends = true; first = a; second = b }
 
-abbrev pub sendingIn : Group → Channel → Record → Bool → Option Midi2 → UpwardMessage
-sendingIn g c r changes none = silent r changes
-sendingIn g c r changes (some m) = saying r changes (first2 g c m) (second2 m)
+abbrev pub sendingIn : Group → Channel → Memory → ℕ → Option Midi2 → UpwardMessage
+sendingIn g c r e none = silent r e
+sendingIn g c r e (some m) = saying r e (first2 g c m) (second2 m)
 
 -- what was lifted, in the group and channel of the word w
-abbrev pub controlIn : ℕ → Bool → Lifted → UpwardMessage
-controlIn w changes l = sendingIn (groupOf w) (channelOf w) (l .after) changes (l .sends)
+abbrev pub controlIn : ℕ → ℕ → Lifted → UpwardMessage
+controlIn w e l = sendingIn (groupOf w) (channelOf w) (l .after) e (l .sends)
 
--- what a message with its record becomes there
-abbrev pub messageIn : ℕ → Record → Midi1 → UpwardMessage
-messageIn w r m = controlIn w (changes m) (lift r m)
+-- what a message with its memory becomes there
+abbrev pub messageIn : ℕ → Memory → Midi1 → UpwardMessage
+messageIn w r m = controlIn w (effectOf m) (lift r m)
 
 -- a note of the status s by one row
-abbrev pub noteIn : ℕ → Record → ℕ → UpwardMessage
+abbrev pub noteIn : ℕ → Memory → ℕ → UpwardMessage
 noteIn w r s =
-    saying r false (voiceWord voice2 (groupOf w) (shownStatus s (data2 w) % 2 ^ 4) (channelOf w) (data1 w) 0)
+    saying r (shownStatus s (data2 w))
+    (voiceWord voice2 (groupOf w) (shownStatus s (data2 w) % 2 ^ 4) (channelOf w) (data1 w) 0)
     (up 7 16 (data2 w) * 2 ^ 16)

@@ -1,35 +1,42 @@
-// Going up: a MIDI 1.0 channel voice message goes in with its channel's record, and out come the
-// record after it and a MIDI 2.0 message or none.
+// Going up: a MIDI 1.0 channel voice message goes in with its channel's memory, and out come the
+// memory after it, its effect on the record, and a MIDI 2.0 message or none.
 //
-// `lifted` is total. What it says of a record that is not sound no call sends: soundness is asked
+// `lifted` is total. What it says of a memory that is not sound no call sends: soundness is asked
 // first, one crate above.
-use channel::MISSING;
-use channel::REGISTERED;
-use channel::Record;
+use effect::LEAVES;
+use effect::RELEASES_ALL;
+use effect::REMEMBERS;
+use memory::MISSING;
+use memory::Memory;
+use memory::REGISTERED;
 use message::voice_word;
 use ump::MIDI2_VOICE;
 use ump::data1;
 use ump::data2;
 use ump::status;
 ghost use mathlib.Core.Path.{_≡_};
-ghost use mathlib.Core.Bool.{false};
 ghost use Prim.Native.Nat.{_+_, _*_, _%_, _^_};
 ghost use Rattle.scale.specs.Scale.{up};
 ghost use Rattle.ump.specs.Word.{channelOf, groupOf, voice2};
 ghost use Rattle.ump.specs.Word;
 ghost use Rattle.message.specs.Message.{controlChange1, programChange1, read1, voiceWord};
-ghost use Rattle.lift.specs.Lift.{controlOf, dataLow, shownStatus};
+ghost use Rattle.effect.specs.Effect.{leaves};
+ghost use Rattle.lift.specs.Lift.{channelMode, controlOf, dataLow, plainEffect, shownStatus};
 ghost use Rattle.lift.specs.Lift;
 ghost use Rattle.lift.specs.Values.{controlIn, messageIn, noteIn, saying, silent};
 
-// The controller that resets all others, and closes the address.
+// The controllers that release every key, and between them the one that resets all others.
+const ALL_SOUND_OFF: u8 = 120;
+
 const RESET: u8 = 121;
 
-// What a message becomes: the record after it, whether the record may have changed, and the two
-// words of a MIDI 2.0 message or none.
+const ALL_NOTES_OFF: u8 = 123;
+
+// What a message becomes: the memory after it, its effect on the record, and the two words of a
+// MIDI 2.0 message or none.
 pub struct UpwardMessage {
-    pub after: Record,
-    pub changes: bool,
+    pub after: Memory,
+    pub effect: u32,
     pub sends: bool,
     pub first: u32,
     pub second: u32,
@@ -51,12 +58,12 @@ pub enum Control {
 }
 
 // Nothing is sent.
-fn taken_in(after: Record, changes: bool) -> UpwardMessage
-    ensures { λ r. ⌜ r ≡ silent after changes ⌝ }
+fn taken_in(after: Memory, effect: u32) -> UpwardMessage
+    ensures { λ r. ⌜ r ≡ silent after effect ⌝ }
 {
     UpwardMessage {
         after,
-        changes,
+        effect,
         sends: false,
         first: 0,
         second: 0,
@@ -65,8 +72,8 @@ fn taken_in(after: Record, changes: bool) -> UpwardMessage
 
 // A message of a status and two bytes in the group and channel of w, with its second word.
 fn sent_up(
-    after: Record,
-    changes: bool,
+    after: Memory,
+    effect: u32,
     status: u32,
     a: u8,
     b: u8,
@@ -74,11 +81,11 @@ fn sent_up(
     second: u32,
 ) -> UpwardMessage
     ensures { λ r. ⌜ r
-        ≡ saying after changes (voiceWord voice2 (groupOf w) (status % 2 ^ 4) (channelOf w) a b) second ⌝ }
+        ≡ saying after effect (voiceWord voice2 (groupOf w) (status % 2 ^ 4) (channelOf w) a b) second ⌝ }
 {
     UpwardMessage {
         after,
-        changes,
+        effect,
         sends: true,
         first: voice_word(MIDI2_VOICE, status, a, b, w),
         second,
@@ -125,76 +132,94 @@ fn fourteen(high: u8, low: u8) -> u32
     scale::up_14_to_32((high as u32) * 0x80 + low as u32)
 }
 
-// Control change 38: sends where data high is present, and the record stays.
-fn data_low(record: Record, w: u32) -> UpwardMessage
-    ensures { λ r. ⌜ r ≡ controlIn w false (dataLow «record» (Word.data2 w)) ⌝ }
+// Control change 38: sends where data high is present, and the memory stays.
+fn data_low(memory: Memory, w: u32) -> UpwardMessage
+    ensures { λ r. ⌜ r ≡ controlIn w leaves (dataLow memory (Word.data2 w)) ⌝ }
 {
-    if record.data_high_present() {
-        let bank = record.address_bank;
-        let index = record.address_index;
-        let value = fourteen(record.data_high, data2(w));
-        if record.kind == REGISTERED {
-            sent_up(record, false, 2, bank, index, w, value)
+    if memory.data_high_present() {
+        let bank = memory.address_bank;
+        let index = memory.address_index;
+        let value = fourteen(memory.data_high, data2(w));
+        if memory.kind == REGISTERED {
+            sent_up(memory, LEAVES, 2, bank, index, w, value)
         } else {
-            sent_up(record, false, 3, bank, index, w, value)
+            sent_up(memory, LEAVES, 3, bank, index, w, value)
         }
     } else {
-        taken_in(record, false)
+        taken_in(memory, LEAVES)
     }
 }
 
-// A controller that is sent as itself, with the record after it.
-fn plain(after: Record, changes: bool, w: u32) -> UpwardMessage
-    ensures { λ r. ⌜ r ≡ controlIn w changes (Lift.plain after (Word.data1 w) (Word.data2 w)) ⌝ }
+// The first four channel mode messages, three of which have an effect.
+fn is_channel_mode(i: u8) -> bool
+    ensures { λ r. ⌜ r ≡ channelMode i ⌝ }
 {
-    sent_up(after, changes, 11, data1(w), 0, w, seven_bits(data2(w)))
+    (ALL_SOUND_OFF <= i) & (i <= ALL_NOTES_OFF)
 }
 
-fn controlled(control: Control, record: Record, w: u32) -> UpwardMessage
+fn plain_effect(i: u8) -> u32
+    ensures { λ r. ⌜ r ≡ plainEffect i ⌝ }
+{
+    if (i == ALL_SOUND_OFF) | (i == ALL_NOTES_OFF) {
+        RELEASES_ALL
+    } else {
+        LEAVES
+    }
+}
+
+// A controller that is sent as itself, with the memory after it.
+fn plain(after: Memory, effect: u32, w: u32) -> UpwardMessage
+    ensures { λ r. ⌜ r ≡ controlIn w effect (Lift.plain after (Word.data1 w) (Word.data2 w)) ⌝ }
+{
+    sent_up(after, effect, 11, data1(w), 0, w, seven_bits(data2(w)))
+}
+
+fn controlled(control: Control, memory: Memory, w: u32) -> UpwardMessage
     ensures { λ r. ⌜ r
-        ≡ controlIn w (Lift.changing control) (Lift.controlled control «record» (Word.data1 w) (Word.data2 w)) ⌝ }
+        ≡ controlIn w (Lift.controlEffect control (Word.data1 w))
+        (Lift.controlled control memory (Word.data1 w) (Word.data2 w)) ⌝ }
 {
     let v = data2(w);
     match control {
-        Control::BankHigh => taken_in(record.with_bank_high(v), true),
-        Control::BankLow => taken_in(record.with_bank_low(v), true),
-        Control::RegisteredBank => taken_in(record.with_registered_bank(v), true),
-        Control::RegisteredIndex => taken_in(record.with_registered_index(v), true),
-        Control::AssignableBank => taken_in(record.with_assignable_bank(v), true),
-        Control::AssignableIndex => taken_in(record.with_assignable_index(v), true),
-        Control::DataHigh => taken_in(record.with_data_high(v), true),
-        Control::DataLow => data_low(record, w),
-        Control::Nothing => taken_in(record, false),
-        Control::Reset => plain(record.with_address_closed(), true, w),
-        Control::Plain => plain(record, false, w),
+        Control::BankHigh => taken_in(memory.with_bank_high(v), REMEMBERS),
+        Control::BankLow => taken_in(memory.with_bank_low(v), REMEMBERS),
+        Control::RegisteredBank => taken_in(memory.with_registered_bank(v), REMEMBERS),
+        Control::RegisteredIndex => taken_in(memory.with_registered_index(v), REMEMBERS),
+        Control::AssignableBank => taken_in(memory.with_assignable_bank(v), REMEMBERS),
+        Control::AssignableIndex => taken_in(memory.with_assignable_index(v), REMEMBERS),
+        Control::DataHigh => taken_in(memory.with_data_high(v), REMEMBERS),
+        Control::DataLow => data_low(memory, w),
+        Control::Nothing => taken_in(memory, LEAVES),
+        Control::Reset => plain(memory.with_address_closed(), REMEMBERS, w),
+        Control::Plain => plain(memory, plain_effect(data1(w)), w),
     }
 }
 
-// One test parts the controllers that are sent as themselves and leave the record from the rest.
-fn control_change(record: Record, w: u32) -> UpwardMessage
-    ensures { λ r. ⌜ r ≡ messageIn w «record» (controlChange1 (Word.data1 w) (Word.data2 w)) ⌝ }
+// One test parts the controllers that are sent as themselves and leave the memory from the rest.
+fn control_change(memory: Memory, w: u32) -> UpwardMessage
+    ensures { λ r. ⌜ r ≡ messageIn w memory (controlChange1 (Word.data1 w) (Word.data2 w)) ⌝ }
 {
     let i = data1(w);
-    if message::is_part(i) | (i == RESET) {
-        controlled(control_of(i), record, w)
+    if message::is_part(i) | is_channel_mode(i) {
+        controlled(control_of(i), memory, w)
     } else {
-        plain(record, false, w)
+        plain(memory, LEAVES, w)
     }
 }
 
 // The bank goes with the program where both halves are present, and is spent either way.
-fn program(record: Record, w: u32) -> UpwardMessage
-    ensures { λ r. ⌜ r ≡ messageIn w «record» (programChange1 (Word.data1 w)) ⌝ }
+fn program(memory: Memory, w: u32) -> UpwardMessage
+    ensures { λ r. ⌜ r ≡ messageIn w memory (programChange1 (Word.data1 w)) ⌝ }
 {
-    let high = record.bank_high;
-    let low = record.bank_low;
-    let after = record.with_bank_spent();
+    let high = memory.bank_high;
+    let low = memory.bank_low;
+    let after = memory.with_bank_spent();
     let number = (data1(w) as u32) * 0x100_0000;
     if !(high == MISSING) & !(low == MISSING) {
         let second = number + (high as u32) * 0x100 + low as u32;
-        sent_up(after, true, 12, 0, 1, w, second)
+        sent_up(after, REMEMBERS, 12, 0, 1, w, second)
     } else {
-        sent_up(after, true, 12, 0, 0, w, number)
+        sent_up(after, REMEMBERS, 12, 0, 0, w, number)
     }
 }
 
@@ -209,34 +234,28 @@ fn shown(status: u32, velocity: u8) -> u32
     }
 }
 
-// Note Off and Note On, by one row: most messages are of these two.
-fn note(record: Record, w: u32, status: u32) -> UpwardMessage
-    ensures { λ r. ⌜ r ≡ noteIn w «record» status ⌝ }
+// Note Off and Note On, by one row: most messages are of these two. The status that is sent is the
+// effect.
+fn note(memory: Memory, w: u32, status: u32) -> UpwardMessage
+    ensures { λ r. ⌜ r ≡ noteIn w memory status ⌝ }
 {
-    sent_up(
-        record,
-        false,
-        shown(status, data2(w)),
-        data1(w),
-        0,
-        w,
-        velocity(w),
-    )
+    let shown = shown(status, data2(w));
+    sent_up(memory, shown, shown, data1(w), 0, w, velocity(w))
 }
 
-// The message of a checked MIDI 1.0 voice packet, by its word, with its record.
-pub fn lifted(record: Record, w: u32) -> UpwardMessage
-    ensures { λ r. ⌜ r ≡ messageIn w «record» (read1 w) ⌝ }
+// The message of a checked MIDI 1.0 voice packet, by its word, with its memory.
+pub fn lifted(memory: Memory, w: u32) -> UpwardMessage
+    ensures { λ r. ⌜ r ≡ messageIn w memory (read1 w) ⌝ }
 {
     let s = status(w);
     if (s == 8) | (s == 9) {
-        return note(record, w, s);
+        return note(memory, w, s);
     }
     match s {
-        10 => sent_up(record, false, 10, data1(w), 0, w, seven_bits(data2(w))),
-        11 => control_change(record, w),
-        12 => program(record, w),
-        13 => sent_up(record, false, 13, 0, 0, w, seven_bits(data1(w))),
-        _ => sent_up(record, false, 14, 0, 0, w, fourteen(data2(w), data1(w))),
+        10 => sent_up(memory, LEAVES, 10, data1(w), 0, w, seven_bits(data2(w))),
+        11 => control_change(memory, w),
+        12 => program(memory, w),
+        13 => sent_up(memory, LEAVES, 13, 0, 0, w, seven_bits(data1(w))),
+        _ => sent_up(memory, LEAVES, 14, 0, 0, w, fourteen(data2(w), data1(w))),
     }
 }

@@ -1,9 +1,10 @@
-// What a caller uses: one call and a run, up and down, over the table that the caller lends, under
-// the names that C and Rust link (include/quernbrae.h).
+// What a caller uses: one call and a run, up and down, over the table that the caller lends, and what
+// may be asked of the table, under the names that C and Rust link (include/quernbrae.h).
 //
 // No function has a `requires`. Each contract gives the report, the table and the output at exit by
 // the definitions of the crates below, on every input.
 use channel::Record;
+use question::KeysDown;
 use stream::Done;
 use table::treat;
 ghost use mathlib.Core.Path.{_≡_};
@@ -12,6 +13,7 @@ ghost use Rattle.ground.specs.Store.{atStart};
 ghost use Rattle.ump.specs.Packet.{packet};
 ghost use Rattle.stream.specs.Report.{reported, reportedCall};
 ghost use Rattle.channel.specs.Record.{empty};
+ghost use Rattle.question.specs.Question.{keysAsked};
 ghost use Rattle.voice.specs.Packet.{oneDown, runDown};
 ghost use Rattle.table.specs.Table.{oneUp, runUp, tableAfter};
 
@@ -68,4 +70,13 @@ pub extern "C" fn quernbrae_run_down(words: &[u32], out: &mut [u32]) -> Done
         ≡ atStart (runDown (length (now (out .entry))) (now (words .entry)) .sends) (now (out .entry)) ⌝ }
 {
     voice::run_down(words, out)
+}
+
+// How many keys are down on a channel of a group, and the lowest.
+#[no_mangle]
+pub extern "C" fn quernbrae_keys_down(table: &[Record], group: u8, channel: u8) -> KeysDown
+    ensures { λ r. ⌜ r ≡ keysAsked (now (table .entry)) group channel ⌝ }
+{
+    let record = table::record_at(table, question::place_asked(group, channel));
+    question::keys_told(table.len(), group, channel, record)
 }

@@ -39,3 +39,10 @@ noTable = 10
 -- the four that stop a run: nothing was read (RULES 4)
 abbrev pub stopsRun : ℕ → Bool
 stopsRun a = eqb a cutPacket || eqb a notSound || eqb a noRoom || eqb a noTable
+
+-- of a question: answered; a group or a channel above 15
+abbrev pub answered : ℕ
+answered = 0
+
+abbrev pub outOfRange : ℕ
+outOfRange = 24

@@ -37,6 +37,12 @@ pub const NO_ROOM: u32 = 9;
 // Going up: the table is not a whole one.
 pub const NO_TABLE: u32 = 10;
 
+// Of a question: it is answered.
+pub const ANSWERED: u32 = 0;
+
+// Of a question: a group or a channel above 15.
+pub const OUT_OF_RANGE: u32 = 24;
+
 // What a call or a run reports. The place is that of the first bad field, and 0 with every answer but
 // `BAD_DATA`.
 #[repr(C)]

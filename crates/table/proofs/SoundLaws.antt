@@ -15,7 +15,7 @@ use Rattle.stream.specs.Run.{Ran}
 use Rattle.stream.proofs.RunLaws.{Does, does-left, run-does, within-does}
 use Rattle.channel.specs.declared.Record.{Record}
 use Rattle.channel.specs.Record.{empty, fresh, sound, wholeTable}
-use Rattle.channel.proofs.Sound.{proved-stays-sound}
+use Rattle.memory.proofs.Sound.{proved-stays-sound}
 use Rattle.lift.proofs.LiftLaws.{lift-sound, read1-fits}
 use Rattle.voice.specs.Packet.{callUp}
 use Rattle.voice.proofs.PacketLaws.{up-does}
@@ -64,7 +64,7 @@ unfolding callUp
 table-keeps t s h =
     table-does SoundTable NotEight t s (λ e. omega (arith, e))
     (up-does (λ (x : Record). SoundTable (set t k x)) NotEight r (packet s) (keep r (h k)) (λ e. omega (arith, e))
-    (λ n. not-both (sym n ∙ h k)) (λ _. keep _ (lift-sound r (h k) _ (read1-fits _))))
+    (λ n. not-both (sym n ∙ h k)) (λ _. keep _ (lift-sound (r .memory) (h k) _ (read1-fits _))))
   where
     k : ℕ
     k = placeOf (first s)

@@ -1,24 +1,24 @@
 -- The call with a record beside the call with the table; and what the loop asks of a step. Assumes nothing.
 use Prim.Native.Nat.{ℕ, _-_, _<_}
 use mathlib.Core.Path.{_≡_, ap, sym, subst, _∙_}
-use mathlib.Core.Bool.{false}
+use mathlib.Core.Bool.{true, false}
 use mathlib.Core.List.{List, _∷_}
 use native.Mathlib.Omega.{arith}
-use lib.ListN.{getD, length, set, take}
+use lib.ListN.{drop, getD, length, set, take}
 use lib.Dec.{eqb}
-use lib.Seq.{set-getD}
 use Rattle.ground.specs.Store.{written}
-use Rattle.ump.specs.Word.{placeOf}
+use Rattle.ump.specs.Word.{data1, placeOf}
 use Rattle.ump.specs.Packet.{size}
 use Rattle.stream.specs.Answers.{noTable}
-use Rattle.stream.specs.Call.{stopped, within}
+use Rattle.stream.specs.Call.{leftOf, stopped, within}
 use Rattle.stream.proofs.RunLoop.{Inside}
 use Rattle.channel.specs.declared.Record.{Record}
 use Rattle.channel.specs.Record.{empty, wholeTable}
-use Rattle.voice.specs.declared.RecordAndReport.{RecordAndReport}
+use Rattle.voice.specs.declared.EffectAndReport.{EffectAndReport}
+use Rattle.effect.specs.Effect.{effected, leaves}
 use Rattle.voice.specs.Packet.{callUp}
+use Rattle.voice.proofs.PacketLaws.{effect-at}
 use Rattle.voice.specs.Turn.{next}
-use Rattle.voice.proofs.PacketLaws.{unchanged-in-room}
 use Rattle.table.specs.declared.Job.{Job}
 use Rattle.stream.specs.declared.Done.{Done}
 use Rattle.table.specs.Table.{tableUp}
@@ -37,24 +37,34 @@ module _ (j : Job) (ws : List ℕ) (d : Done) (t : List Record) (out : List ℕ)
   abbrev own : Record
   own = getD t (placeAt ws (d .read)) empty
 
-  abbrev turn : RecordAndReport
+  abbrev turn : EffectAndReport
   turn = turnAt (recordStep j) ws d own out
+
+  -- the record with the effect that `step` tells
+  abbrev pub made : Record
+  made = effected own (turn .effect) (turn .after) (data1 (getD ws (d .read) 0))
+
+  abbrev room : ℕ
+  room = length out - d .written
+
+  -- it is the record that the call leaves
+  made-left : made ≡ leftOf (room, own) (within callUp (room, own) (drop (d .read) ws)) .1
+  unfolding recordStep within callUp
+  made-left = effect-at room own ws (d .read)
 
   pub as-table : length t ≡ wholeTable
       → (turn .done ≡ reportAfterCall (tableStep j) ws d t out)
-      × (set t (placeAt ws (d .read)) (turn .after) ≡ stateAfter (tableStep j) ws d t out)
+      × (set t (placeAt ws (d .read)) made ≡ stateAfter (tableStep j) ws d t out)
       × (outputAfterCall (recordStep j) ws d own out ≡ outputAfterCall (tableStep j) ws d t out)
   unfolding recordStep tableStep within
   as-table l =
-      let e = own-call d (next ws d) (length out - d .written) t ws (d .read) l in
-      (e .0, e .2, ap (λ (x : List ℕ). written (d .written) x out) (e .1))
+      let e = own-call d (next ws d) room t ws (d .read) l in
+      (e .0, ap (set t (placeAt ws (d .read))) made-left ∙ e .2, ap (λ (x : List ℕ). written (d .written) x out) (e .1))
 
-  -- a record that is not said to change stays as it was
-  pub unchanged : turn .changes ≡ false → set t (placeAt ws (d .read)) (turn .after) ≡ t
-  unfolding recordStep within callUp
-  unchanged h =
-      ap (set t (placeAt ws (d .read))) (unchanged-in-room (length out - d .written) own (next ws d) h)
-      ∙ set-getD t (placeAt ws (d .read)) empty
+  -- without an effect the table stays as it was
+  pub left-alone : eqb (turn .effect) leaves ≡ true → set t (placeAt ws (d .read)) own ≡ set t (placeAt ws (d .read)) made
+  unfolding effected
+  left-alone h = rw h
 
 -- what the loop asks of a step: that it looks at its own packet alone, goes on only with a whole one, and refuses a table
 -- that is not whole

@@ -14,28 +14,31 @@ use ghost.Atoms.{Atoms}
 use types.Kit.{Given}
 use denote.RattleType.{RattleType}
 use denote.Shadow.{shadow}
-use denote.Laws.{Is, Tells, Makes}
+use denote.Laws.{Is, Tells, Makes, Copy}
 use denote.Array.{Array, each, array-vals, array-typed}
 use denote.Steps.{only}
 use denote.Memory.{pointee, mem}
 use denote.Slice.{sliceTy, Room}
 use denote.Struct.Laws as LL
 use Rattle.channel.specs.declared.Record.{Record}
+use Rattle.memory.specs.declared.Memory.{Memory}
+use Rattle.memory.proofs.Memory as TN
+use Rattle.memory.proofs.Memory.Laws as TN′
 use Rattle.channel.proofs.Record as TR
 use Rattle.channel.proofs.Record.Laws as TR′
 use Rattle.stream.specs.declared.Done.{Done}
 use Rattle.stream.proofs.Done as TD
 use Rattle.stream.proofs.Done.Laws as TD′
 use Rattle.table.specs.declared.Progress.{Progress}
-use Rattle.voice.specs.declared.RecordAndReport.{RecordAndReport}
+use Rattle.voice.specs.declared.EffectAndReport.{EffectAndReport}
 use Rattle.table.specs.declared.Job.{Job}
 use Rattle.table.specs.declared.TableAndReport.{TableAndReport}
 use Rattle.table.proofs.Job as TJ
 use Rattle.table.proofs.Job.Laws as TJ′
 use Rattle.table.proofs.Progress as TP
 use Rattle.table.proofs.Progress.Laws as TP′
-use Rattle.voice.proofs.RecordAndReport as TS
-use Rattle.voice.proofs.RecordAndReport.Laws as TS′
+use Rattle.voice.proofs.EffectAndReport as TS
+use Rattle.voice.proofs.EffectAndReport.Laws as TS′
 use Rattle.table.proofs.TableAndReport as TT
 use Rattle.table.proofs.TableAndReport.Laws as TT′
 
@@ -51,6 +54,16 @@ valsR = LL.vals TR.the-type TR′.the-laws
 
 abbrev pub tellsR : Tells R (Is R) valsR
 tellsR = LL.tells TR.the-type TR′.the-laws
+
+-- ---- Memory
+abbrev pub N : RattleType
+N = TN.the-row
+
+abbrev pub valN : Memory → Val
+valN = LL.val TN.the-type TN′.the-laws
+
+abbrev pub valsN : Memory → List Val
+valsN = LL.vals TN.the-type TN′.the-laws
 
 -- ---- Job
 abbrev pub J : RattleType
@@ -94,23 +107,26 @@ tellsD = LL.tells TD.the-type TD′.the-laws
 pub done-is : (p : Progress) → Is P p (valsP p) → Is D (p .done) (valsD (p .done))
 done-is p g = LL.owed TP.the-type TP′.the-laws p (valsP p) g .0
 
--- ---- RecordAndReport, and its parts
+-- ---- EffectAndReport, and its parts
 abbrev pub S : RattleType
 S = TS.the-row
 
-abbrev pub valS : RecordAndReport → Val
+abbrev pub valS : EffectAndReport → Val
 valS = LL.val TS.the-type TS′.the-laws
 
-abbrev pub valsS : RecordAndReport → List Val
+abbrev pub valsS : EffectAndReport → List Val
 valsS = LL.vals TS.the-type TS′.the-laws
 
 abbrev pub tellsS : Tells S (Is S) valsS
 tellsS = LL.tells TS.the-type TS′.the-laws
 
-pub after-is : (s : RecordAndReport) → Is S s (valsS s) → Is R (s .after) (valsR (s .after))
+pub after-is : (s : EffectAndReport) → Is S s (valsS s) → Is N (s .after) (valsN (s .after))
 after-is s g = LL.owed TS.the-type TS′.the-laws s (valsS s) g .0
 
-pub report-is : (s : RecordAndReport) → Is S s (valsS s) → Is D (s .done) (valsD (s .done))
+pub effect-fits : (s : EffectAndReport) → Is S s (valsS s) → s .effect < 2 ^ 32
+effect-fits s g = LL.owed TS.the-type TS′.the-laws s (valsS s) g .1 .0 .1
+
+pub report-is : (s : EffectAndReport) → Is S s (valsS s) → Is D (s .done) (valsD (s .done))
 report-is s g = LL.owed TS.the-type TS′.the-laws s (valsS s) g .1 .1 .0
 
 -- ---- an array of records
@@ -149,13 +165,16 @@ module _ {M : Type 1} (𝓤 : URA M) (H : Heap 𝓤) (A : Atoms 𝓤) (W : Given
   pub typedR : (r : Record) → Is R r (valsR r) → Holds (hasTy TR′.mir (valR r)) × WT (valR r)
   typedR r g = LL.lawful TR.the-type TR′.the-laws 𝓤 H A W .typed r (valsR r) g .0
 
+  pub typedN : (m : Memory) → Is N m (valsN m) → Holds (hasTy TN′.mir (valN m)) × WT (valN m)
+  typedN m g = LL.lawful TN.the-type TN′.the-laws 𝓤 H A W .typed m (valsN m) g .0
+
   pub typedJ : (j : Job) → Is J j (valsJ j) → Holds (hasTy TJ′.mir (valJ j)) × WT (valJ j)
   typedJ j g = LL.lawful TJ.the-type TJ′.the-laws 𝓤 H A W .typed j (valsJ j) g .0
 
   pub typedP : (p : Progress) → Is P p (valsP p) → Holds (hasTy TP′.mir (valP p)) × WT (valP p)
   typedP p g = LL.lawful TP.the-type TP′.the-laws 𝓤 H A W .typed p (valsP p) g .0
 
-  pub typedS : (s : RecordAndReport) → Is S s (valsS s) → Holds (hasTy TS′.mir (valS s)) × WT (valS s)
+  pub typedS : (s : EffectAndReport) → Is S s (valsS s) → Holds (hasTy TS′.mir (valS s)) × WT (valS s)
   typedS s g = LL.lawful TS.the-type TS′.the-laws 𝓤 H A W .typed s (valsS s) g .0
 
   pub typedD : (d : Done) → Is D d (valsD d) → Holds (hasTy TD′.mir (valD d)) × WT (valD d)
@@ -163,6 +182,12 @@ module _ {M : Type 1} (𝓤 : URA M) (H : Heap 𝓤) (A : Atoms 𝓤) (W : Given
 
   abbrev pub madeR : Makes 𝓤 H A R (Is R)
   madeR = LL.makes TR.the-type TR′.the-plain 𝓤 H A
+
+  abbrev pub madeN : Makes 𝓤 H A N (Is N)
+  madeN = LL.makes TN.the-type TN′.the-plain 𝓤 H A
+
+  abbrev pub copiedR : Copy 𝓤 H A R
+  copiedR = LL.copy TR.the-type TR′.the-copy 𝓤 H A W
 
   abbrev pub madeJ : Makes 𝓤 H A J (Is J)
   madeJ = LL.makes TJ.the-type TJ′.the-plain 𝓤 H A
@@ -179,6 +204,9 @@ tyWords ℓ = sliceTy (tyRef ℓ imm (tyInt w32))
 
 abbrev pub tyOut : Lifetime → Ty
 tyOut ℓ = sliceTy (tyRef ℓ mut (tyInt w32))
+
+abbrev pub tyTableRead : Lifetime → Ty
+tyTableRead ℓ = sliceTy (tyRef ℓ imm (pointee (R .written)))
 
 abbrev pub tyTable : Lifetime → Ty
 tyTable ℓ = sliceTy (tyRef ℓ mut (pointee (R .written)))

@@ -7,8 +7,8 @@ use Rattle.stream.specs.Call.{Call, leftOf, sentOf, within}
 use Rattle.stream.specs.Report.{further}
 use Rattle.channel.specs.declared.Record.{Record}
 use Rattle.ground.specs.Store.{written}
-use Rattle.voice.specs.declared.RecordAndReport.{RecordAndReport}
-use Rattle.voice.specs.Packet.{changesAt}
+use Rattle.voice.specs.declared.EffectAndReport.{EffectAndReport}
+use Rattle.voice.specs.Packet.{effectAt}
 use Rattle.voice.specs.Turn.{next, turned}
 
 module _ {T : Type 0} (step : T → List ℕ → Call T) (ws : List ℕ) (d : Done) (t : T) (out : List ℕ) where
@@ -25,6 +25,6 @@ module _ {T : Type 0} (step : T → List ℕ → Call T) (ws : List ℕ) (d : Do
   abbrev pub outputAfterCall : List ℕ
   outputAfterCall = written (d .written) (sentOf callAt) out
 
--- with one record: what is left of it, whether it may have changed, and the report
-abbrev pub turnAt : (Record → List ℕ → Call Record) → List ℕ → Done → Record → List ℕ → RecordAndReport
-turnAt step ws d r out = turned d (next ws d) out r (changesAt (next ws d)) (step r (drop (d .read) ws))
+-- with one record: what is then remembered, the effect on it, and the report
+abbrev pub turnAt : (Record → List ℕ → Call Record) → List ℕ → Done → Record → List ℕ → EffectAndReport
+turnAt step ws d r out = turned d (next ws d) out r (effectAt (next ws d)) (step r (drop (d .read) ws))

@@ -1,26 +1,28 @@
 // The packets of a stream, one after another, going up over the table that the caller lends: one
-// record is read for each packet, and stored again only where it may have changed. The loop never
-// copies the table.
+// record is read for each packet, and read and stored again only where the packet has an effect on it.
+// The loop never copies the table.
 //
 // `treat` has no `requires`, and promises the call or the run itself, on every input. `run_from`
 // lends it a table that the caller has by value.
 use channel::RECORDS;
 use channel::Record;
+use effect::LEAVES;
+use effect::effected;
 use stream::Done;
 use stream::NO_TABLE;
 use stream::SENT;
 use stream::report;
 use stream::report_place;
-use voice::RecordAndReport;
+use voice::EffectAndReport;
 ghost use mathlib.Core.Path.{_≡_};
 ghost use mathlib.Core.Bool.{cond, not, _&&_, _||_};
 ghost use lib.Dec.{eqb, ltb};
 ghost use lib.ListN.{getD, length};
 ghost use Rattle.ground.specs.Store.{atStart};
-ghost use Rattle.ump.specs.Word.{placeOf};
+ghost use Rattle.ump.specs.Word.{data1, placeOf};
 ghost use Rattle.stream.specs.Answers.{noTable, sent};
 ghost use Rattle.stream.specs.Report.{counting, placing, reported};
-ghost use Rattle.channel.specs.Record.{wholeTable};
+ghost use Rattle.channel.specs.Record.{empty, wholeTable};
 ghost use Rattle.table.specs.Table.{runUp, tableAfter};
 ghost use Rattle.table.specs.Job.{asked, askedReport, oneCall, recordStep, tableStep, wholeRun};
 ghost use Rattle.table.specs.Next.{outputAfterCall, reportAfterCall, stateAfter, turnAt};
@@ -54,6 +56,17 @@ pub fn whole_run() -> Job
     Job { once: false }
 }
 
+// The record at a place, and an empty one past the end.
+pub fn record_at(table: &[Record], i: usize) -> Record
+    ensures { λ r. ⌜ r ≡ getD (now (table .entry)) i empty ⌝ }
+{
+    if i < table.len() {
+        table[i]
+    } else {
+        Record::empty()
+    }
+}
+
 // Before the first packet: a call is made whatever there is, a run goes on where there is a word.
 fn start(n: usize, words: usize, job: Job) -> Progress
     ensures report { λ r. ⌜ r .done ≡ counting (cond (eqb n wholeTable) sent noTable) 0 0 ⌝ }
@@ -79,8 +92,15 @@ fn place_of(words: &[u32], past: Done) -> usize
     ump::record_number(ump::group_of(w), ump::channel_of(w))
 }
 
+// The key of the next packet, if it is a note.
+fn key_of(words: &[u32], past: Done) -> u8
+    ensures { λ r. ⌜ r ≡ data1 (getD (now (words .entry)) (past .read) 0) ⌝ }
+{
+    ump::data1(ump::word_at(words, past.read))
+}
+
 // The call at the next packet, with its record. What the job may ask of a packet is asked here; today it asks nothing.
-fn step(words: &[u32], job: Job, past: Done, record: Record, out: &mut [u32]) -> RecordAndReport
+fn step(words: &[u32], job: Job, past: Done, record: Record, out: &mut [u32]) -> EffectAndReport
     ensures turn { λ r. ⌜ r ≡ turnAt (recordStep job) (now (words .entry)) past «record» (now (out .entry)) ⌝ }
     ensures output { λ _. ⌜ now (out .exit)
         ≡ outputAfterCall (recordStep job) (now (words .entry)) past «record» (now (out .entry)) ⌝ }
@@ -100,10 +120,11 @@ fn one(words: &[u32], job: Job, past: Done, table: &mut [Record], out: &mut [u32
 {
     let i = place_of(words, past);
     let s = step(words, job, past, table[i], out);
-    if s.changes {
-        table[i] = s.after;
+    if s.effect == LEAVES {
         s.done
     } else {
+        let after = s.after;
+        table[i] = effected(table[i], s.effect, after, key_of(words, past));
         s.done
     }
 }

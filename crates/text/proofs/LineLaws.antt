@@ -43,7 +43,7 @@ places-more n h =
     ∙ rw (le-ltb n 10 h, places-enough n (n / 10) (n / 10) (omega arith) (omega arith))
 
 -- a number below ten to the k has at most k places
-few : (f k n : ℕ) → n < 10 ^ suc k → placesIn f n ≤ suc k
+pub few : (f k n : ℕ) → n < 10 ^ suc k → placesIn f n ≤ suc k
 unfolding placesIn
 few zero k n h = omega arith
 few (suc f) k n h = go k (ltb n 10) refl h (λ j l. few f j (n / 10) l)

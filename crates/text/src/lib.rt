@@ -1,8 +1,11 @@
-// A line of the listing: the answer, the words read, a place where there is one, and each word sent in
-// upper-case hex.
+// Lines of text. A line of the listing: the answer, the words read, a place where there is one, and each
+// word sent in upper-case hex. A line of the panel: a channel with keys down, and a lamp for each key.
 //
-// `line` has no `requires`. It says what it answers and what the lent buffer holds after it, on every
-// input: a line that does not fit is not begun.
+// `line` and `lamps` have no `requires`. They say what they answer and what the lent buffer holds after
+// them, on every input: a line that does not fit is not begun.
+mod panel;
+
+pub use panel::lamps;
 ghost use mathlib.Core.Path.{_≡_};
 ghost use Prim.Native.Nat.{_+_, _*_, _-_, _<_, _≤_};
 ghost use lib.Dec.{leb};

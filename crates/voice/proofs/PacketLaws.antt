@@ -1,36 +1,39 @@
--- Laws of one packet: a call looks at its own packet alone, and goes on only with a whole one; what it comes to; it
--- sends at most four words; and when it leaves its record as it was. Assumes nothing.
-use Prim.Native.Nat.{ℕ, suc, _≤_}
+-- Laws of one packet: a call looks at its own packet alone, and goes on only with a whole one; what it comes to;
+-- and it sends at most four words. Assumes nothing.
+use Prim.Native.Nat.{ℕ, zero, suc, _≤_}
 use mathlib.Core.Path.{_≡_, refl, sym, ap, subst, _∙_}
 use mathlib.Core.Bool.{true, false}
-use mathlib.Core.Logic.{⊎-elim}
+use mathlib.Core.Logic.{_⊎_, inl, inr, ⊎-elim}
 use mathlib.Core.Option.{Option, none, some}
 use mathlib.Core.List.{List, [], _∷_, map}
 use native.Mathlib.Omega.{arith}
-use lib.Dec.{eqb, leb}
-use lib.ListN.{length, length-map, take}
-use lib.Seq.{length-take-le}
-use Rattle.ground.proofs.Cases.{by-bool, choose, not-both}
-use Rattle.ump.specs.Word.{channelOf, groupOf, messageType, voice1, voice2}
+use lib.Dec.{eqb, leb, leb·zero, ltb}
+use lib.ListN.{drop, drop-of-length-le, getD, length, length-map, take}
+use lib.Seq.{drop-cons, length-take-le}
+use borrow.Author.Tests.{ltb-false, ltb-true}
+use Rattle.ground.proofs.Cases.{by-bool, choose}
+use Rattle.effect.specs.Effect.{effected}
+use Rattle.ump.specs.Word.{channelOf, data1, groupOf, messageType, voice1, voice2}
 use Rattle.ump.specs.Packet.{first, packet, second, size}
-use Rattle.ump.proofs.PacketLaws.{packet-near, packet-size}
+use Rattle.ump.proofs.PacketLaws.{packet-near, packet-size, size-range}
 use Rattle.stream.specs.Answers.{cutPacket, noForm, notSound, sent, stopsRun, takenIn}
 use Rattle.stream.specs.Call.{Call, answerOf, fit, leftOf, refused, sentOf, stopped, went}
-use Rattle.stream.proofs.CallLaws.{refusal}
+use Rattle.stream.proofs.CallLaws.{refusal, refused-fits}
 use Rattle.stream.proofs.RunLaws.{Does}
 use Rattle.stream.proofs.RunLoop.{Inside}
 use Rattle.screen.specs.Screen.{checkVoice1, goesOn, screen, screened}
-use Rattle.screen.proofs.ScreenLaws.{cut-only, screen-voice1, screened-cases}
+use Rattle.screen.proofs.ScreenLaws.{cut-only, refused-above, screen-voice1, screened-cases}
 use Rattle.channel.specs.declared.Record.{Record}
 use Rattle.channel.specs.Record.{sound}
 use Rattle.message.specs.Message.{Midi1, Midi2, read1, read2, write1, write2}
 use Rattle.lift.specs.Lift.{lift}
-use Rattle.lift.proofs.LiftLaws.{unchanging}
+use Rattle.lift.specs.Played.{recordAfter}
+use Rattle.lift.proofs.EffectLaws.{effect-does}
 use Rattle.lower.specs.Lower.{lower}
 use Rattle.lower.proofs.LowerLaws.{lower-few}
-use Rattle.voice.specs.Packet.{actDown, actUp, callDown, callUp, changesAt, packetDown, packetUp, sending}
-use Rattle.voice.specs.Packet.{sendingDown, speakDown, speakUp}
-use Rattle.voice.specs.Turn.{changedBy}
+use Rattle.voice.specs.Packet.{actDown, actUp, callDown, callUp, packetDown, packetUp, sending}
+use Rattle.voice.specs.Packet.{effectAt, sendingDown, speakDown, speakUp}
+use Rattle.voice.specs.Turn.{effectBy}
 
 pub down-near : (t : Unit {0}) (w : ℕ) (s : List ℕ) → callDown t (take (size w) (w ∷ s)) ≡ callDown t (w ∷ s)
 unfolding callDown
@@ -65,10 +68,10 @@ pub record UpCases {T : Type 0} (P : Call T → Type 0) (t : T) (put : Record �
   pub unsound : screen voice2 p .answer ≡ goesOn → eqb (messageType w) voice1 ≡ true → sound r ≡ false
       → P (stopped notSound)
   pub takes : screen voice2 p .answer ≡ goesOn → eqb (messageType w) voice1 ≡ true → sound r ≡ true
-      → lift r (read1 w) .sends ≡ none → P (went takenIn [] (put (lift r (read1 w) .after)))
+      → lift (r .memory) (read1 w) .sends ≡ none → P (went takenIn [] (put (recordAfter r (read1 w))))
   pub sends : screen voice2 p .answer ≡ goesOn → eqb (messageType w) voice1 ≡ true → sound r ≡ true → (m : Midi2)
-      → lift r (read1 w) .sends ≡ some m
-      → P (went sent (write2 (groupOf w) (channelOf w) m) (put (lift r (read1 w) .after)))
+      → lift (r .memory) (read1 w) .sends ≡ some m
+      → P (went sent (write2 (groupOf w) (channelOf w) m) (put (recordAfter r (read1 w))))
 
 abbrev itself : Record → Record
 itself r = r
@@ -79,14 +82,14 @@ unfolding packetUp speakUp
 up-cases P r p u =
     screened-cases P (screen voice2 p) r (actUp r p)
     (λ f. choose P (eqb (messageType w) voice1)
-    (λ e. choose P (sound r) (λ h. go f e h (lift r (read1 w) .sends) refl) (u .unsound f e)) (u .onward f))
+    (λ e. choose P (sound r) (λ h. go f e h (lift (r .memory) (read1 w) .sends) refl) (u .unsound f e)) (u .onward f))
     (u .refuses)
   where
     w : ℕ
     w = first p
 
     go : screen voice2 p .answer ≡ goesOn → eqb (messageType w) voice1 ≡ true → sound r ≡ true → (o : Option Midi2)
-        → lift r (read1 w) .sends ≡ o → P (sending (groupOf w) (channelOf w) (lift r (read1 w) .after) o)
+        → lift (r .memory) (read1 w) .sends ≡ o → P (sending (groupOf w) (channelOf w) (recordAfter r (read1 w)) o)
     go f e h none k = u .takes f e h k
     go f e h (some m) k = u .sends f e h m k
 
@@ -123,7 +126,7 @@ refused-does I A wrong p t h three =
     (λ e. subst (λ (q : List ℕ). A (screen wrong q .answer)) (sym (cut-only wrong p e)) three) (λ _. h)
 
 pub up-does : (I : Record → Type 0) (A : ℕ → Type 0) (r : Record) (p : List ℕ) → I r → A cutPacket
-    → (sound r ≡ false → A notSound) → (sound r ≡ true → I (lift r (read1 (first p)) .after)) → Does I A (packetUp r p)
+    → (sound r ≡ false → A notSound) → (sound r ≡ true → I (recordAfter r (read1 (first p)))) → Does I A (packetUp r p)
 up-does I A r p h three eight after =
     up-cases (Does I A) r p
     (record {
@@ -174,47 +177,84 @@ few-down p h =
           omega (arith, length-map ms (write1 (groupOf (first p)) (channelOf (first p))));
     })
 
+-- without a packet nothing happens
+pub up-cut : (r : Record) → packetUp r [] ≡ stopped cutPacket
+unfolding packetUp screen screened refused
+up-cut r = refl
+
 -- a MIDI 1.0 voice message by its one word
 pub packet-voice1 : (r : Record) (w : ℕ) → messageType w ≡ 2
     → packetUp r (w ∷ []) ≡ screened (checkVoice1 w) r (speakUp r w)
 unfolding packetUp
 packet-voice1 r w h = rw (screen-voice1 w h, h)
 
--- the record stays where the packet cannot change it, and where the answer is neither `sent` nor `takenIn`
-abbrev Stays : Record → Call Record → Type 0
-Stays r c = leftOf r c ≡ r
+-- The effect that is told is what becomes of the record, in an output of so much room.
+module _ (room : ℕ) (r : Record) (p : List ℕ) where
+  abbrev key : ℕ
+  key = data1 (first p)
 
-pub unchanged-up : (r : Record) (p : List ℕ) → changesAt p ≡ false → leftOf r (packetUp r p) ≡ r
-unchanged-up r p h =
-    up-cases (Stays r) r p
-    (record {
-      refuses = λ _. refusal (screen voice2 p .answer) r [] (λ _. refl) .3;
-      onward = λ _ _. refl;
-      unsound = λ _ _ _. refl;
-      takes = λ _ e _ _. unchanging r (read1 (first p)) (rw e at h);
-      sends = λ _ e _ _ _. unchanging r (read1 (first p)) (rw e at h);
-    })
+  abbrev Made : Call (ℕ × Record) → Type 0
+  Made c =
+      effected r (effectBy (effectAt p) c) (leftOf (room, r) c .1 .memory) key ≡ leftOf (room, r) c .1
 
-pub refused-up : (r : Record) (p : List ℕ) → leb (answerOf (packetUp r p)) takenIn ≡ false → leftOf r (packetUp r p) ≡ r
-refused-up r p =
-    up-cases (λ (c : Call Record). leb (answerOf c) takenIn ≡ false → Stays r c) r p
-    (record {
-      refuses = λ _ _. refusal (screen voice2 p .answer) r [] (λ _. refl) .3;
-      onward = λ _ _ _. refl;
-      unsound = λ _ _ _ _. refl;
-      takes = λ _ _ _ _ h. not-both (sym h);
-      sends = λ _ _ _ _ _ h. not-both (sym h);
-    })
+  stays : (a : ℕ) → leb a takenIn ≡ false → (c : Call (ℕ × Record)) → answerOf c ≡ a → leftOf (room, r) c .1 ≡ r → Made c
+  unfolding effected
+  stays a h c e l = rw (e, h, l)
 
--- so it stays in an output of so much room, where it is not reported as changed
-pub unchanged-in-room : (room : ℕ) (r : Record) (p : List ℕ) → changedBy (changesAt p) (fit room (packetUp r p)) ≡ false
-    → leftOf (room, r) (fit room (packetUp r p)) .1 ≡ r
-unchanged-in-room room r p = go (packetUp r p) (unchanged-up r p) (refused-up r p)
+  pub effect-made : Made (fit room (packetUp r p))
+  unfolding effected
+  effect-made =
+      up-cases (λ (c : Call Record). Made (fit room c)) r p
+      (record {
+        refuses = λ n.
+            let a = screen voice2 p .answer in
+            let z = refusal {T = ℕ × Record} a (room, r) [] (λ _. refl) in
+            rw (refused-fits room a r)
+            (stays a (refused-above voice2 p n) (refused a (room, r)) (z .0) (ap (λ (x : ℕ × Record). x .1) (z .3)));
+        onward = λ _ e. choose Made (leb (length p) room) (λ _. rw e) (λ _. refl);
+        unsound = λ _ _ _. refl;
+        takes = λ _ e _ _. rw (leb·zero room, e) (effect-does r (first p));
+        sends = λ _ e _ m _.
+            choose Made (leb (length (write2 (groupOf (first p)) (channelOf (first p)) m)) room)
+            (λ _. rw e (effect-does r (first p))) (λ _. refl);
+      })
+
+-- a packet that is there has its first word from the words
+first-of : (ws : List ℕ) (i : ℕ) → (packet (drop i ws) ≡ []) ⊎ (first (packet (drop i ws)) ≡ getD ws i 0)
+unfolding packet
+first-of ws i =
+    by-bool (ltb i (length ws))
+    (λ e. rw (drop-cons ws i 0 (ltb-true i (length ws) e)) (go (getD ws i 0) (drop (suc i) ws)))
+    (λ e. inl (rw (drop-of-length-le ws (ltb-false i (length ws) e)) refl))
   where
-    go : (c : Call Record) → (changesAt p ≡ false → Stays r c) → (leb (answerOf c) takenIn ≡ false → Stays r c)
-        → changedBy (changesAt p) (fit room c) ≡ false → leftOf (room, r) (fit room c) .1 ≡ r
-    go (stopped a) f g = λ _. refl
-    go (went a ws u) f g =
-        choose (λ (c : Call (ℕ × Record)). changedBy (changesAt p) c ≡ false → leftOf (room, r) c .1 ≡ r)
-        (leb (length ws) room)
-        (λ _ h. by-bool (leb a takenIn) (λ e. f (rw e at h)) g) (λ _ _. refl)
+    taken : (w : ℕ) (s : List ℕ) (k : ℕ) → (1 ≤ k) × (k ≤ 4) → first (take k (w ∷ s)) ≡ w
+    taken w s zero h = absurd (omega arith)
+    taken w s (suc k) h = refl
+
+    go : (w : ℕ) (s : List ℕ) → (packet (w ∷ s) ≡ []) ⊎ (first (packet (w ∷ s)) ≡ w)
+    go w s = ⊎-elim (λ z. inl z) (λ h. inr (rw (h .0) (taken w s (size w) (size-range w)))) (packet-size w s)
+
+-- the effect of a packet, with its own key, is the record that its call leaves; where there is no packet, any key will do
+effect-left : (room : ℕ) (r : Record) (p : List ℕ) (k : ℕ) → (p ≡ []) ⊎ (data1 (first p) ≡ k)
+    → effected r (effectBy (effectAt p) (fit room (packetUp r p))) (leftOf (room, r) (fit room (packetUp r p)) .1 .memory) k
+    ≡ leftOf (room, r) (fit room (packetUp r p)) .1
+unfolding effected
+effect-left room r p k (inl z) = subst Leaves (sym z) none
+  where
+    Leaves : List ℕ → Type 0
+    Leaves p =
+        effected r (effectBy (effectAt p) (fit room (packetUp r p))) (leftOf (room, r) (fit room (packetUp r p)) .1 .memory) k
+        ≡ leftOf (room, r) (fit room (packetUp r p)) .1
+
+    none : Leaves []
+    none = rw (up-cut r) refl
+effect-left room r p k (inr e) = rw (← e) (effect-made room r p)
+
+-- so it is with the key that stands in the words
+pub effect-at : (room : ℕ) (r : Record) (ws : List ℕ) (i : ℕ) → let p = packet (drop i ws) in
+    effected r (effectBy (effectAt p) (fit room (packetUp r p))) (leftOf (room, r) (fit room (packetUp r p)) .1 .memory)
+    (data1 (getD ws i 0))
+    ≡ leftOf (room, r) (fit room (packetUp r p)) .1
+effect-at room r ws i =
+    effect-left room r (packet (drop i ws)) (data1 (getD ws i 0))
+    (⊎-elim (λ z. inl z) (λ e. inr (ap data1 e)) (first-of ws i))

@@ -12,7 +12,6 @@ use lib.ListN.{List·getD-eq-default, drop, drop-of-length-le, getD, length, len
 use lib.Seq.{drop-cons, sets, sets-eq}
 use borrow.Author.Tests.{eqb-false, eqb-true, le-leb, lt-leb, ltb-false, ltb-true, ne-eqb}
 use Rattle.ground.specs.Store.{written}
-use Rattle.ground.proofs.Bools.{and-false}
 use Rattle.ground.proofs.Cases.{by-bool, not-both}
 use Rattle.ground.proofs.StoreLaws.{written-none}
 use Rattle.ump.specs.Word.{channelOf, groupOf, messageType, voice1, voice2}
@@ -30,16 +29,18 @@ use Rattle.channel.specs.declared.Record.{Record}
 use Rattle.channel.specs.Record.{sound}
 use Rattle.message.specs.Message.{Midi1, Midi2, read1, read2, write1}
 use Rattle.lift.specs.declared.UpwardMessage.{UpwardMessage}
-use Rattle.lift.specs.Lift.{changes, lift}
+use Rattle.effect.specs.Effect.{leaves}
+use Rattle.lift.specs.Lift.{effectOf, lift}
+use Rattle.lift.specs.Played.{recordAfter}
 use Rattle.lift.specs.Values.{messageIn, sendingIn}
 use Rattle.lower.specs.declared.UpToFourWords.{UpToFourWords}
 use Rattle.lower.specs.Lower.{lower}
 use Rattle.lower.specs.Values.{packed, wordsIn}
 use Rattle.lower.proofs.LowerLaws.{lower-few}
-use Rattle.voice.specs.declared.RecordAndReport.{RecordAndReport}
+use Rattle.voice.specs.declared.EffectAndReport.{EffectAndReport}
 use Rattle.voice.specs.Output.{sentWords}
-use Rattle.voice.specs.Packet.{changesAt, onwardOf, packetDown, packetUp, sending, sendingDown, speakDown, speakUp, spoken, voiceDown}
-use Rattle.voice.specs.Turn.{changedBy, inRoom, next, outputAfter, outputOf, reportAfter, reportOf, turned}
+use Rattle.voice.specs.Packet.{effectAt, onwardOf, packetDown, packetUp, sending, sendingDown, speakDown, speakUp, spoken, voiceDown}
+use Rattle.voice.specs.Turn.{effectBy, inRoom, next, outputAfter, outputOf, reportAfter, reportOf, turned}
 use Rattle.voice.proofs.PacketLaws.{packet-voice1}
 
 -- up to four words come back from their values
@@ -90,48 +91,48 @@ unfolding screened
 refuses s t act n = rw (ne-eqb (s .answer) goesOn n)
 
 -- a record that stays beside a refusal
-pub refused-turn : (d : Done) (p out : List ℕ) (r : Record) (may : Bool) (a : ℕ) → (stopsRun a ≡ true → p ≡ []) → leb a takenIn ≡ false
-    → record { after = r; changes = false; done = placing a (placeTold a p) (d .read + length p) (d .written) } ≡ turned d p out r may (refused a r)
+pub refused-turn : (d : Done) (p out : List ℕ) (r : Record) (may : ℕ) (a : ℕ) → (stopsRun a ≡ true → p ≡ []) → leb a takenIn ≡ false
+    → record { after = r .memory; effect = leaves; done = placing a (placeTold a p) (d .read + length p) (d .written) } ≡ turned d p out r may (refused a r)
 refused-turn d p out r may a no-packet above =
     let z = refusal {T = ℕ × Record} a (length out - d .written, r) p no-packet in
     rw (refused-fits (length out - d .written) a r, z .0, z .1, z .2, z .3, above, add-zero (d .written))
 
 -- a message with its record: it sends two words, has no room for them, or is taken in
-module _ (d : Done) (w : ℕ) (r : Record) (out : List ℕ) (m : UpwardMessage) (e : m ≡ messageIn w r (read1 w)) where
-  abbrev Spoken : RecordAndReport → List ℕ → Type 0
-  Spoken x o = (x ≡ turned d (w ∷ []) out r (changes (read1 w)) (spoken r w)) × (o ≡ outputOf d out (spoken r w))
+module _ (d : Done) (w : ℕ) (r : Record) (out : List ℕ) (m : UpwardMessage) (e : m ≡ messageIn w (r .memory) (read1 w)) where
+  abbrev Spoken : EffectAndReport → List ℕ → Type 0
+  Spoken x o = (x ≡ turned d (w ∷ []) out r (effectOf (read1 w)) (spoken r w)) × (o ≡ outputOf d out (spoken r w))
 
-  abbrev As : Option Midi2 → RecordAndReport → List ℕ → Type 0
+  abbrev As : Option Midi2 → EffectAndReport → List ℕ → Type 0
   As o x after =
-      let c = sending (groupOf w) (channelOf w) (lift r (read1 w) .after) o in
-      (x ≡ turned d (w ∷ []) out r (changes (read1 w)) c) × (after ≡ outputOf d out c)
+      let c = sending (groupOf w) (channelOf w) (recordAfter r (read1 w)) o in
+      (x ≡ turned d (w ∷ []) out r (effectOf (read1 w)) c) × (after ≡ outputOf d out c)
 
   pub message-sent : m .sends ≡ true → 2 ≤ length out - d .written → d .written < length out
-      → Spoken (record { after = m .after; changes = m .changes; done = counting sent (d .read + 1) (d .written + 2) })
+      → Spoken (record { after = m .after; effect = m .effect; done = counting sent (d .read + 1) (d .written + 2) })
       (sets out (d .written) (m .first ∷ m .second ∷ []))
-  message-sent s h i = go (lift r (read1 w) .sends) e
+  message-sent s h i = go (lift (r .memory) (read1 w) .sends) e
     where
-      go : (o : Option Midi2) → m ≡ sendingIn (groupOf w) (channelOf w) (lift r (read1 w) .after) (changes (read1 w)) o
-          → As o (record { after = m .after; changes = m .changes; done = counting sent (d .read + 1) (d .written + 2) })
+      go : (o : Option Midi2) → m ≡ sendingIn (groupOf w) (channelOf w) (lift (r .memory) (read1 w) .after) (effectOf (read1 w)) o
+          → As o (record { after = m .after; effect = m .effect; done = counting sent (d .read + 1) (d .written + 2) })
           (sets out (d .written) (m .first ∷ m .second ∷ []))
       go none f = not-both (sym (ap (λ (x : UpwardMessage). x .sends) f) ∙ s)
       go (some x) f = rw (le-leb 2 (length out - d .written) h) (rw f, sets-eq (m .first ∷ m .second ∷ []) out (d .written) (omega arith) ∙ rw f)
 
   pub message-tight : m .sends ≡ true → length out - d .written < 2
-      → Spoken (record { after = r; changes = false; done = counting noRoom (d .read) (d .written) }) out
-  message-tight s h = go (lift r (read1 w) .sends) e
+      → Spoken (record { after = r .memory; effect = leaves; done = counting noRoom (d .read) (d .written) }) out
+  message-tight s h = go (lift (r .memory) (read1 w) .sends) e
     where
-      go : (o : Option Midi2) → m ≡ sendingIn (groupOf w) (channelOf w) (lift r (read1 w) .after) (changes (read1 w)) o
-          → As o (record { after = r; changes = false; done = counting noRoom (d .read) (d .written) }) out
+      go : (o : Option Midi2) → m ≡ sendingIn (groupOf w) (channelOf w) (lift (r .memory) (read1 w) .after) (effectOf (read1 w)) o
+          → As o (record { after = r .memory; effect = leaves; done = counting noRoom (d .read) (d .written) }) out
       go none f = not-both (sym (ap (λ (x : UpwardMessage). x .sends) f) ∙ s)
       go (some x) f = rw (lt-leb 2 (length out - d .written) h) (rw (add-zero (d .read), add-zero (d .written)), sym (written-none (d .written) out))
 
   pub message-quiet : m .sends ≡ false
-      → Spoken (record { after = m .after; changes = m .changes; done = counting takenIn (d .read + 1) (d .written) }) out
-  message-quiet s = go (lift r (read1 w) .sends) e
+      → Spoken (record { after = m .after; effect = m .effect; done = counting takenIn (d .read + 1) (d .written) }) out
+  message-quiet s = go (lift (r .memory) (read1 w) .sends) e
     where
-      go : (o : Option Midi2) → m ≡ sendingIn (groupOf w) (channelOf w) (lift r (read1 w) .after) (changes (read1 w)) o
-          → As o (record { after = m .after; changes = m .changes; done = counting takenIn (d .read + 1) (d .written) }) out
+      go : (o : Option Midi2) → m ≡ sendingIn (groupOf w) (channelOf w) (lift (r .memory) (read1 w) .after) (effectOf (read1 w)) o
+          → As o (record { after = m .after; effect = m .effect; done = counting takenIn (d .read + 1) (d .written) }) out
       go none f = rw (leb·zero (length out - d .written)) (rw (f, add-zero (d .written)), sym (written-none (d .written) out))
       go (some x) f = not-both (sym s ∙ ap (λ (x : UpwardMessage). x .sends) f)
 
@@ -158,6 +159,10 @@ module _ (ws : List ℕ) (i : ℕ) where
           taken zero h = absurd (omega arith)
           taken (suc k) h = ne-eqb (messageType w) voice1 n
 
+same-either : (b : Bool) → cond b leaves leaves ≡ leaves
+same-either true = refl
+same-either false = refl
+
 -- what is sent on, going up, leaves the record
 module _ (d : Done) (p out : List ℕ) (r : Record) where
   abbrev room : ℕ
@@ -165,11 +170,11 @@ module _ (d : Done) (p out : List ℕ) (r : Record) where
 
   abbrev Same : Call (ℕ × Unit {0}) → Call (ℕ × Record) → Type 0
   Same c k =
-      (_≡_ {A = RecordAndReport}
-      (record { after = r; changes = false; done = placing (answerOf c) (placeTold (answerOf c) p) (d .read + readOf p c) (d .written + length (sentOf c)) })
+      (_≡_ {A = EffectAndReport}
+      (record { after = r .memory; effect = leaves; done = placing (answerOf c) (placeTold (answerOf c) p) (d .read + readOf p c) (d .written + length (sentOf c)) })
       (record {
-        after = leftOf (room, r) k .1;
-        changes = changedBy false k;
+        after = leftOf (room, r) k .1 .memory;
+        effect = effectBy leaves k;
         done = placing (answerOf k) (placeTold (answerOf k) p) (d .read + readOf p k) (d .written + length (sentOf k));
       }))
       × (written (d .written) (sentOf c) out ≡ written (d .written) (sentOf k) out)
@@ -183,11 +188,11 @@ module _ (d : Done) (p out : List ℕ) (r : Record) where
   same-refused a = go (stopsRun a)
     where
       go : (s : Bool) → Same (cond s (stopped a) (went a [] (room, tt))) (cond s (stopped a) (went a [] (room, r)))
-      go true = rw (and-false (leb a takenIn)) (refl, refl)
-      go false = rw (and-false (leb a takenIn)) (refl, refl)
+      go true = rw (same-either (leb a takenIn)) (refl, refl)
+      go false = rw (same-either (leb a takenIn)) (refl, refl)
 
   pub onward-turn : eqb (messageType (first p)) voice1 ≡ false
-      → (record { after = r; changes = false; done = reportOf d p out (onwardOf voice2 p) } ≡ turned d p out r (changesAt p) (packetUp r p))
+      → (record { after = r .memory; effect = leaves; done = reportOf d p out (onwardOf voice2 p) } ≡ turned d p out r (effectAt p) (packetUp r p))
       × (outputOf d out (onwardOf voice2 p) ≡ outputOf d out (packetUp r p))
   unfolding packetUp
   onward-turn n = rw n (go (eqb (s .answer) goesOn) refl)
@@ -275,8 +280,8 @@ unfolding speakUp
 speaks-sound r w h = rw h
 
 pub speaks-unsound : (d : Done) (w : ℕ) (r : Record) (out : List ℕ) → sound r ≡ false
-    → (record { after = r; changes = false; done = counting notSound (d .read) (d .written) }
-    ≡ turned d (w ∷ []) out r (changes (read1 w)) (speakUp r w))
+    → (record { after = r .memory; effect = leaves; done = counting notSound (d .read) (d .written) }
+    ≡ turned d (w ∷ []) out r (effectOf (read1 w)) (speakUp r w))
     × (out ≡ outputOf d out (speakUp r w))
 unfolding speakUp
 speaks-unsound d w r out h = (rw (h, add-zero (d .read), add-zero (d .written)), rw h (sym (written-none (d .written) out)))
@@ -284,21 +289,21 @@ speaks-unsound d w r out h = (rw (h, add-zero (d .read), add-zero (d .written)),
 -- a MIDI 1.0 voice message that the check refuses
 pub check-refused : (d : Done) (w : ℕ) (r : Record) (out : List ℕ) (s : Screened) → messageType w ≡ voice1 → s ≡ checkVoice1 w
     → (s .answer ≡ goesOn → ⊥)
-    → (record { after = r; changes = false; done = placing (s .answer) (s .place) (d .read + 1) (d .written) }
-    ≡ turned d (w ∷ []) out r (changes (read1 w)) (screened (checkVoice1 w) r (speakUp r w)))
+    → (record { after = r .memory; effect = leaves; done = placing (s .answer) (s .place) (d .read + 1) (d .written) }
+    ≡ turned d (w ∷ []) out r (effectOf (read1 w)) (screened (checkVoice1 w) r (speakUp r w)))
     × (out ≡ outputOf d out (screened (checkVoice1 w) r (speakUp r w)))
 check-refused d w r out s v e n =
     let f : checkVoice1 w .answer ≡ goesOn → ⊥ = λ z. n (ap (λ (x : Screened). x .answer) e ∙ z) in
     let no-packet : stopsRun (checkVoice1 w .answer) ≡ true → (w ∷ []) ≡ [] = λ k. not-both (sym (check-goes-on w) ∙ k) in
     rw (e, refuses (checkVoice1 w) r (speakUp r w) f, check-place w v) (
-      refused-turn d (w ∷ []) out r (changes (read1 w)) (checkVoice1 w .answer) no-packet (check-above w f),
+      refused-turn d (w ∷ []) out r (effectOf (read1 w)) (checkVoice1 w .answer) no-packet (check-above w f),
       refused-output d (w ∷ []) out r (checkVoice1 w .answer) no-packet,
     )
 
 -- and the packet that is one
-pub voice-turn : (d : Done) (ws out : List ℕ) (r : Record) (x : RecordAndReport) (o : List ℕ) → messageType (getD ws (d .read) 0) ≡ voice1
+pub voice-turn : (d : Done) (ws out : List ℕ) (r : Record) (x : EffectAndReport) (o : List ℕ) → messageType (getD ws (d .read) 0) ≡ voice1
     → let w = getD ws (d .read) 0 in
     let c = screened (checkVoice1 w) r (speakUp r w) in
-    (x ≡ turned d (w ∷ []) out r (changes (read1 w)) c) × (o ≡ outputOf d out c)
-    → let p = next ws d in (x ≡ turned d p out r (changesAt p) (packetUp r p)) × (o ≡ outputOf d out (packetUp r p))
+    (x ≡ turned d (w ∷ []) out r (effectOf (read1 w)) c) × (o ≡ outputOf d out c)
+    → let p = next ws d in (x ≡ turned d p out r (effectAt p) (packetUp r p)) × (o ≡ outputOf d out (packetUp r p))
 voice-turn d ws out r x o e h = rw (voice-packet ws (d .read) e, packet-voice1 r (getD ws (d .read) 0) e, e) h

@@ -1,6 +1,6 @@
 -- One packet up with its record, and one packet down: cut, type, check, act (RULES 3, 6 and 8).
 use Prim.Native.Nat.{ℕ}
-use mathlib.Core.Bool.{Bool, cond, _&&_}
+use mathlib.Core.Bool.{cond}
 use mathlib.Core.Option.{Option, none, some}
 use mathlib.Core.List.{List, [], _∷_, map}
 use lib.Dec.{eqb}
@@ -15,7 +15,9 @@ use Rattle.screen.specs.Screen.{screen, screened}
 use Rattle.channel.specs.declared.Record.{Record}
 use Rattle.channel.specs.Record.{sound}
 use Rattle.message.specs.Message.{Midi1, Midi2, read1, read2, write1, write2}
-use Rattle.lift.specs.Lift.{changes, lift}
+use Rattle.effect.specs.Effect.{leaves}
+use Rattle.lift.specs.Lift.{effectOf, lift}
+use Rattle.lift.specs.Played.{recordAfter}
 use Rattle.lower.specs.Lower.{lower}
 
 -- what a lifted message sends: its two words, or nothing
@@ -25,7 +27,7 @@ sending g c r (some m) = went sent (write2 g c m) r
 
 -- the call of a MIDI 1.0 voice message with a sound record
 abbrev pub spoken : Record → ℕ → Call Record
-spoken r w = sending (groupOf w) (channelOf w) (lift r (read1 w) .after) (lift r (read1 w) .sends)
+spoken r w = sending (groupOf w) (channelOf w) (recordAfter r (read1 w)) (lift (r .memory) (read1 w) .sends)
 
 -- a checked MIDI 1.0 voice message acts with its record, if that is sound
 unfoldable pub speakUp : Record → ℕ → Call Record
@@ -60,9 +62,9 @@ packetDown p = screened (screen voice1 p) tt (actDown p)
 abbrev pub onwardOf : ℕ → List ℕ → Call (Unit {0})
 onwardOf wrong p = screened (screen wrong p) tt (went sent p tt)
 
--- whether a packet may change its record
-abbrev pub changesAt : List ℕ → Bool
-changesAt p = eqb (messageType (first p)) voice1 && changes (read1 (first p))
+-- what a packet may do to its record
+abbrev pub effectAt : List ℕ → ℕ
+effectAt p = cond (eqb (messageType (first p)) voice1) (effectOf (read1 (first p))) leaves
 
 -- One call: the packet that stands first in the words left.
 unfoldable pub callUp : Record → List ℕ → Call Record

@@ -1,6 +1,6 @@
 -- A call in the middle of a stream: after what was read and written so far, into an output that may already hold words.
 use Prim.Native.Nat.{ℕ, _+_, _-_}
-use mathlib.Core.Bool.{Bool, cond, _&&_}
+use mathlib.Core.Bool.{cond}
 use mathlib.Core.List.{List}
 use lib.ListN.{drop, length}
 use lib.Dec.{leb}
@@ -11,7 +11,8 @@ use Rattle.stream.specs.Answers.{noRoom, sent, takenIn}
 use Rattle.stream.specs.Call.{Call, answerOf, fit, leftOf, sentOf}
 use Rattle.stream.specs.Report.{counting, further}
 use Rattle.channel.specs.declared.Record.{Record}
-use Rattle.voice.specs.declared.RecordAndReport.{RecordAndReport}
+use Rattle.effect.specs.Effect.{leaves}
+use Rattle.voice.specs.declared.EffectAndReport.{EffectAndReport}
 
 -- the packet that is next
 abbrev pub next : List ℕ → Done → List ℕ
@@ -28,16 +29,16 @@ reportOf d p out c = further d p (inRoom d out c)
 abbrev pub outputOf : {T : Type 0} → Done → List ℕ → Call T → List ℕ
 outputOf d out c = written (d .written) (sentOf (inRoom d out c)) out
 
--- the record may have changed only if the packet was sent or taken in
-abbrev pub changedBy : {T : Type 0} → Bool → Call T → Bool
-changedBy may c = leb (answerOf c) takenIn && may
+-- a packet has its effect only if it was sent or taken in
+abbrev pub effectBy : {T : Type 0} → ℕ → Call T → ℕ
+effectBy may c = cond (leb (answerOf c) takenIn) may leaves
 
--- going up: the record after, whether it may have changed, and the report
-abbrev pub turned : Done → List ℕ → List ℕ → Record → Bool → Call Record → RecordAndReport
+-- going up: what is then remembered, the effect on the record, and the report
+abbrev pub turned : Done → List ℕ → List ℕ → Record → ℕ → Call Record → EffectAndReport
 turned d p out r may c =
     record {
-      after = leftOf (length out - d .written, r) (inRoom d out c) .1;
-      changes = changedBy may (inRoom d out c);
+      after = leftOf (length out - d .written, r) (inRoom d out c) .1 .memory;
+      effect = effectBy may (inRoom d out c);
       done = reportOf d p out c;
     }
 

@@ -1,10 +1,11 @@
 // One packet going up. A MIDI 1.0 voice message, which most packets are, is one word: it is asked for
 // before the packet is cut out.
-use crate::RecordAndReport;
+use crate::EffectAndReport;
 use crate::output::onward;
 use crate::output::refuse;
 use crate::output::room;
 use channel::Record;
+use effect::LEAVES;
 use lift::UpwardMessage;
 use screen::GOES_ON;
 use stream::Done;
@@ -16,47 +17,49 @@ use stream::report;
 use ump::MIDI1_VOICE;
 use ump::MIDI2_VOICE;
 ghost use mathlib.Core.Path.{_≡_};
-ghost use mathlib.Core.Bool.{false};
 ghost use mathlib.Core.List.{[], _∷_};
 ghost use Prim.Native.Nat.{_+_, _<_, _^_};
 ghost use Rattle.ump.specs.Word.{messageType, voice1};
 ghost use Rattle.screen.specs.Screen.{checkVoice1, screened};
 ghost use Rattle.message.specs.Message.{read1};
-ghost use Rattle.lift.specs.Lift.{changes};
-ghost use Rattle.voice.specs.Packet.{changesAt, packetUp, speakUp, spoken};
+ghost use Rattle.effect.specs.Effect.{leaves};
+ghost use Rattle.lift.specs.Lift.{effectOf};
+ghost use Rattle.voice.specs.Packet.{effectAt, packetUp, speakUp, spoken};
 ghost use Rattle.voice.specs.Turn.{next, outputOf, turned};
 
 // The record stays.
-fn stays(record: Record, done: Done) -> RecordAndReport
-    ensures { λ r. ⌜ r ≡ record { after = «record»; changes = false; done = done } ⌝ }
+fn stays(record: Record, done: Done) -> EffectAndReport
+    ensures { λ r. ⌜ r ≡ record { after = «record» .memory; effect = leaves; done = done } ⌝ }
 {
-    RecordAndReport {
-        after: record,
-        changes: false,
+    let after = record.memory;
+    EffectAndReport {
+        after,
+        effect: LEAVES,
         done,
     }
 }
 
-// The record is what the message leaves.
-fn leaves(message: UpwardMessage, done: Done) -> RecordAndReport
-    ensures { λ r. ⌜ r ≡ record { after = message .after; changes = message .changes; done = done } ⌝ }
+// The message has its effect.
+fn acts(message: UpwardMessage, done: Done) -> EffectAndReport
+    ensures { λ r. ⌜ r ≡ record { after = message .after; effect = message .effect; done = done } ⌝ }
 {
     let after = message.after;
-    RecordAndReport {
+    EffectAndReport {
         after,
-        changes: message.changes,
+        effect: message.effect,
         done,
     }
 }
 
 // A checked message with its sound record: its two words, or none, into the output.
-fn speak(past: Done, record: Record, w: u32, out: &mut [u32]) -> RecordAndReport
+fn speak(past: Done, record: Record, w: u32, out: &mut [u32]) -> EffectAndReport
     requires { ⌜ past .read + 1 < 2 ^ 64 ⌝ }
     ensures turn { λ r. ⌜ r
-        ≡ turned past (w ∷ []) (now (out .entry)) «record» (changes (read1 w)) (spoken «record» w) ⌝ }
+        ≡ turned past (w ∷ []) (now (out .entry)) «record» (effectOf (read1 w)) (spoken «record» w) ⌝ }
     ensures output { λ _. ⌜ now (out .exit) ≡ outputOf past (now (out .entry)) (spoken «record» w) ⌝ }
 {
-    let message = lift::lifted(record, w);
+    let memory = record.memory;
+    let message = lift::lifted(memory, w);
     let read = past.read;
     let to = past.written;
     if message.sends {
@@ -65,17 +68,17 @@ fn speak(past: Done, record: Record, w: u32, out: &mut [u32]) -> RecordAndReport
         }
         out[to] = message.first;
         out[to + 1] = message.second;
-        leaves(message, report(SENT, read + 1, to + 2))
+        acts(message, report(SENT, read + 1, to + 2))
     } else {
-        leaves(message, report(TAKEN_IN, read + 1, to))
+        acts(message, report(TAKEN_IN, read + 1, to))
     }
 }
 
 // A checked message with its record, which is asked to be sound.
-fn speak_up(past: Done, record: Record, w: u32, out: &mut [u32]) -> RecordAndReport
+fn speak_up(past: Done, record: Record, w: u32, out: &mut [u32]) -> EffectAndReport
     requires { ⌜ past .read + 1 < 2 ^ 64 ⌝ }
     ensures turn { λ r. ⌜ r
-        ≡ turned past (w ∷ []) (now (out .entry)) «record» (changes (read1 w)) (speakUp «record» w) ⌝ }
+        ≡ turned past (w ∷ []) (now (out .entry)) «record» (effectOf (read1 w)) (speakUp «record» w) ⌝ }
     ensures output { λ _. ⌜ now (out .exit) ≡ outputOf past (now (out .entry)) (speakUp «record» w) ⌝ }
 {
     if record.is_sound() {
@@ -86,9 +89,9 @@ fn speak_up(past: Done, record: Record, w: u32, out: &mut [u32]) -> RecordAndRep
 }
 
 // A MIDI 1.0 voice message, by its one word.
-fn voice_up(past: Done, record: Record, w: u32, out: &mut [u32]) -> RecordAndReport
+fn voice_up(past: Done, record: Record, w: u32, out: &mut [u32]) -> EffectAndReport
     requires { ⌜ (past .read + 1 < 2 ^ 64) × (messageType w ≡ voice1) ⌝ }
-    ensures turn { λ r. ⌜ r ≡ turned past (w ∷ []) (now (out .entry)) «record» (changes (read1 w))
+    ensures turn { λ r. ⌜ r ≡ turned past (w ∷ []) (now (out .entry)) «record» (effectOf (read1 w))
         (screened (checkVoice1 w) «record» (speakUp «record» w)) ⌝ }
     ensures output { λ _. ⌜ now (out .exit) ≡ outputOf past (now (out .entry))
         (screened (checkVoice1 w) «record» (speakUp «record» w)) ⌝ }
@@ -102,9 +105,9 @@ fn voice_up(past: Done, record: Record, w: u32, out: &mut [u32]) -> RecordAndRep
 }
 
 // The packet that is next in the words, with its record.
-pub fn up(words: &[u32], past: Done, record: Record, out: &mut [u32]) -> RecordAndReport
+pub fn up(words: &[u32], past: Done, record: Record, out: &mut [u32]) -> EffectAndReport
     ensures turn { λ r. ⌜ r ≡ turned past (next (now (words .entry)) past) (now (out .entry)) «record»
-        (changesAt (next (now (words .entry)) past)) (packetUp «record» (next (now (words .entry)) past)) ⌝ }
+        (effectAt (next (now (words .entry)) past)) (packetUp «record» (next (now (words .entry)) past)) ⌝ }
     ensures output { λ _. ⌜ now (out .exit)
         ≡ outputOf past (now (out .entry)) (packetUp «record» (next (now (words .entry)) past)) ⌝ }
 {

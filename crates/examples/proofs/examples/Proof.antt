@@ -4,7 +4,7 @@ use Rattle.scale.specs.Scale.{fill, up}
 use Rattle.ump.specs.Packet.{packet, size}
 use Rattle.fields.specs.Check.{badPlace, checkedFields, goodStatus, voice1Fields, voice2Fields}
 use Rattle.screen.specs.Screen.{screen, screened}
-use Rattle.channel.specs.Record.{kept, sound, withDataHigh}
+use Rattle.memory.specs.Memory.{kept, sound, withDataHigh}
 use Rattle.message.specs.Message.{bankOf, first2, read1, read2, second2, write1}
 use Rattle.lift.specs.Lift.{addressed2, banked2, controlOf, controlled, dataLow, lift}
 use Rattle.lower.specs.Lower.{lower, sounding}

@@ -1,6 +1,6 @@
 -- `lift::lifted` meets its contract: status by status; the notes by one row. Assumes nothing.
 use Rattle.ground.proofs.Tests.{tests}
-use Rattle.lift.specs.Lift.{changes, lift}
+use Rattle.lift.specs.Lift.{effectOf, lift}
 use Rattle.message.specs.Message.{first2, read1, second2}
 use Rattle.ump.proofs.FieldLaws.{seven-bits1, seven-bits2}
 use Rattle.lift.proofs.WayLaws.{bend-way, note-way}
@@ -11,13 +11,13 @@ use Rattle.lift.proofs.lifted.Statement.{statement}
 use Rattle.lift.proofs.lifted.Tie as tie
 
 pub lifted-spec : {M : Type 1} → statement M
-unfolding changes first2 lift read1 second2
+unfolding effectOf first2 lift read1 second2
 lifted-spec =
     tie.close
     (tie.spec
     (λ c κs. search needs) (λ c κs. search needs)
     (λ c. let w = c .before .before .before .args .w in
-    let r = c .before .before .before .args .«record» in
+    let r = c .before .before .before .args .memory in
     rw (c .note .ensures, c .before .before .status .ensures) (note-way w r (rw (c .before .before .status .ensures) at (c .before .if1 .taken))))
     (λ c κs. search needs) (λ c κs. search needs) (λ c κs. search needs) (λ c κs. search needs)
     (λ c κs. search needs) (λ c κs. search needs) (λ c κs. search needs) (λ c κs. search needs)

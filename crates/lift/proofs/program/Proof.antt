@@ -1,13 +1,13 @@
 -- `lift::program` meets its contract: the bank goes with it exactly where both halves are present. Assumes nothing.
 use Rattle.ground.proofs.Tests.{tests}
-use Rattle.lift.specs.Lift.{banked2, changes, lift}
+use Rattle.lift.specs.Lift.{banked2, effectOf, lift}
 use Rattle.message.specs.Message.{first2, second2}
 use borrow.Author.Needs.{needs}
 use Rattle.lift.proofs.program.Statement.{statement}
 use Rattle.lift.proofs.program.Tie as tie
 
 pub program-spec : {M : Type 1} → statement M
-unfolding banked2 changes first2 lift second2
+unfolding banked2 effectOf first2 lift second2
 program-spec =
     tie.close
     (tie.spec

@@ -12,46 +12,46 @@ use Rattle.flow.proofs.ListLaws.{Calls, Lined, calls-at, four-words, li
 use Rattle.flow.proofs.lines.list_one.Statement.{statement}
 use Rattle.flow.proofs.lines.list_one.Tie as tie
 
-abbrev entry : tie.After-up → tie.Start
+abbrev entry : tie.After-called → tie.Start
 entry u = u .before .before .before .before .before
 
-abbrev calling : tie.After-line → tie.After-up
+abbrev calling : tie.After-line → tie.After-called
 calling l = l .before .before .before .before .before .before .before .before
 
-abbrev four : tie.After-up → List ℕ
-four u = u .up .last .1 .1 .1 .0
+abbrev four : tie.After-called → List ℕ
+four u = u .called .last .1 .1 .1 .0
 
 -- the call that was made
-calls : (u : tie.After-up) → let a = entry u .args in let p = next (now (a .words)) (a .past) in
-    Calls (a .past) p (now (a .text)) (a .«record») (u .up .result) (four u) (packetUp (a .«record») p)
+calls : (u : tie.After-called) → let a = entry u .args in let p = next (now (a .words)) (a .past) in
+    Calls (a .past) p (now (a .text)) (a .«record») (u .called .result) (four u) (packetUp (a .«record») p)
 calls u =
     let a = entry u .args in
-    calls-at (now (a .words)) (a .past) _ (now (a .text)) (a .«record») (u .up .result) _ (u .before .before .report .ensures) (u .up .ensures)
+    calls-at (now (a .words)) (a .past) _ (now (a .text)) (a .«record») (u .called .result) _ (u .before .before .report .ensures) (u .called .ensures)
 
 returns : tie.Need-returns
 returns c =
     let u = c .before .before .before .before .before in
     let a = entry u .args in
     let p = next (now (a .words)) (a .past) in
-    let z = line-none (a .past) p (now (a .text)) (a .«record») (u .up .result) (four u) (packetUp (a .«record») p)
+    let z = line-none (a .past) p (now (a .text)) (a .«record») (u .called .result) (four u) (packetUp (a .«record») p)
     (up-few (a .«record») (drop (a .past .read) (now (a .words)))) (up-cut (a .«record») p) (calls u) (c .before .if1 .taken) in
     (c .told .ensures ∙ z .0, z .1)
 
-words : (u : tie.After-up) → let x = u .up .result .done in
+words : (u : tie.After-called) → let x = u .called .result .done in
     (entry u .args .past .read ≤ x .read) × (x .written ≤ length (four u)) × (x .written ≡ length (take (x .written) (four u)))
 words u =
     let a = entry u .args in
     let p = next (now (a .words)) (a .past) in
-    four-words (a .past) p (now (a .text)) (a .«record») (u .up .result) (four u) (packetUp (a .«record») p)
+    four-words (a .past) p (now (a .text)) (a .«record») (u .called .result) (four u) (packetUp (a .«record») p)
     (up-few (a .«record») (drop (a .past .read) (now (a .words)))) (calls u)
 
 lines : (l : tie.After-line) → let u = calling l in let a = entry u .args in let p = next (now (a .words)) (a .past) in
-    Lined (a .past) p (now (a .text)) (a .«record») (u .up .result) (four u) (packetUp (a .«record») p) (l .line .result) (l .line .last .1 .1 .1 .1 .0)
+    Lined (a .past) p (now (a .text)) (a .«record») (u .called .result) (four u) (packetUp (a .«record») p) (l .line .result) (l .line .last .1 .1 .1 .1 .0)
 lines l =
     let u = calling l in
     let a = entry u .args in
     let p = next (now (a .words)) (a .past) in
-    line-some (a .past) p (now (a .text)) (a .«record») (u .up .result) (four u) (packetUp (a .«record») p) _ _
+    line-some (a .past) p (now (a .text)) (a .«record») (u .called .result) (four u) (packetUp (a .«record») p) _ _
     (up-few (a .«record») (drop (a .past .read) (now (a .words)))) (calls u) (l .before .before .before .before .if1 .left) (l .line .ensures)
 
 pub list-one-spec : {M : Type 1} → statement M
