@@ -28,7 +28,8 @@ enum {
     QUERNBRAE_BAD_DATA = 7,       /* 2.3; the report tells the place */
     QUERNBRAE_NOT_SOUND = 8,      /* going up: the record of the packet's channel breaks 5.2 */
     QUERNBRAE_NO_ROOM = 9,        /* the output cannot hold what the packet sends (3.4) */
-    QUERNBRAE_NO_TABLE = 10       /* going up: the table has more or fewer than 256 records */
+    QUERNBRAE_NO_TABLE = 10,      /* the table has more or fewer than 256 records */
+    QUERNBRAE_OUT_OF_RANGE = 24   /* of a question: a group or a channel above 15 (5.8) */
 };
 
 /* The address kinds of a record (docs/RULES.md, 5.1). */
@@ -42,6 +43,8 @@ enum { QUERNBRAE_RECORDS = 256 };
 
 /* What is remembered of one channel between packets (docs/RULES.md, 5.1). */
 typedef struct {
+    uint64_t keys_low;  /* key k of 0 to 63 is bit k (5.7) */
+    uint64_t keys_high; /* key k of 64 to 127 is bit k - 64 */
     uint16_t kind;
     uint8_t bank_high;
     uint8_t bank_low;
@@ -58,7 +61,17 @@ typedef struct {
     size_t written; /* words written, from the output's start */
 } quernbrae_done;
 
-/* The empty record: kind none, all five numbers missing. Fill a table with it before the first packet
+/* What is answered of the keys of a channel (docs/RULES.md, 5.8). */
+typedef struct {
+    uint32_t answer; /* 0, 10 or 24 */
+    uint32_t down;   /* how many keys are down */
+    uint32_t lowest; /* the lowest of them, or QUERNBRAE_NO_KEY */
+} quernbrae_keys;
+
+/* Stands for the lowest key where none is down. */
+enum { QUERNBRAE_NO_KEY = 255 };
+
+/* The empty record: no key down, kind none, all five numbers missing. Fill a table with it before the first packet
  * (docs/RULES.md, 5.1). */
 quernbrae_record quernbrae_empty(void);
 
@@ -84,6 +97,10 @@ quernbrae_done quernbrae_down(const uint32_t *words, size_t words_len,
  * Going down or up, an output twice as long as the words never lacks room (9.3). */
 quernbrae_done quernbrae_run_down(const uint32_t *words, size_t words_len,
                                   uint32_t *out, size_t out_len);
+
+/* How many keys are down on a channel of a group, and the lowest (docs/RULES.md, 5.8). The table is only read. */
+quernbrae_keys quernbrae_keys_down(const quernbrae_record *table, size_t table_len,
+                                   uint8_t group, uint8_t channel);
 
 #ifdef __cplusplus
 }

@@ -1,4 +1,4 @@
-/* Translates a bank change, a program change and a note up, and back down. */
+/* Translates a bank change, a program change and a note up, and back down, and asks which key is down. */
 #include "quernbrae.h"
 
 #include <stdio.h>
@@ -17,6 +17,8 @@ int main(void) {
     quernbrae_done d = quernbrae_run_down(up, u.written, down, 8);
     printf("\ndown: answer %u, read %zu, wrote %zu:", (unsigned)d.answer, d.read, d.written);
     for (size_t i = 0; i < d.written; i++) printf(" %08X", (unsigned)down[i]);
-    printf("\n");
+
+    quernbrae_keys k = quernbrae_keys_down(table, QUERNBRAE_RECORDS, 0, 0);
+    printf("\nkeys: answer %u, %u down, the lowest %u\n", (unsigned)k.answer, (unsigned)k.down, (unsigned)k.lowest);
     return 0;
 }

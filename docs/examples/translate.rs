@@ -1,8 +1,10 @@
-//! Translates a bank change, a program change and a note up, and back down.
+//! Translates a bank change, a program change and a note up, and back down, and asks which key is down.
 
 #[repr(C)]
 #[derive(Clone, Copy)]
 struct Record {
+    keys_low: u64,
+    keys_high: u64,
     kind: u16,
     bank_high: u8,
     bank_low: u8,
@@ -20,10 +22,18 @@ struct Done {
     written: usize,
 }
 
+#[repr(C)]
+struct Keys {
+    answer: u32,
+    down: u32,
+    lowest: u32,
+}
+
 extern "C" {
     fn quernbrae_empty() -> Record;
     fn quernbrae_run_up(w: *const u32, n: usize, t: *mut Record, m: usize, o: *mut u32, k: usize) -> Done;
     fn quernbrae_run_down(w: *const u32, n: usize, o: *mut u32, k: usize) -> Done;
+    fn quernbrae_keys_down(t: *const Record, m: usize, group: u8, channel: u8) -> Keys;
 }
 
 /// A table of 256 empty records.
@@ -42,6 +52,11 @@ fn run_down(words: &[u32], out: &mut [u32]) -> Done {
     unsafe { quernbrae_run_down(words.as_ptr(), words.len(), out.as_mut_ptr(), out.len()) }
 }
 
+/// How many keys are down on a channel of a group, and the lowest.
+fn keys_down(table: &[Record], group: u8, channel: u8) -> Keys {
+    unsafe { quernbrae_keys_down(table.as_ptr(), table.len(), group, channel) }
+}
+
 fn main() {
     let words = [0x20B00001, 0x20B02002, 0x20C00500, 0x20903C41];
     let (mut up, mut down) = ([0u32; 8], [0u32; 8]);
@@ -51,4 +66,6 @@ fn main() {
     println!("channel 0 now has bank high {}", table[0].bank_high);
     let d = run_down(&up[..u.written], &mut down);
     println!("down: answer {}, read {}, wrote {}: {:08X?}", d.answer, d.read, d.written, &down[..d.written]);
+    let k = keys_down(&table, 0, 0);
+    println!("keys: answer {}, {} down, the lowest {}", k.answer, k.down, k.lowest);
 }
