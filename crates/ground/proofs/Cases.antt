@@ -1,6 +1,6 @@
 -- Going by cases on a test. Assumes nothing.
 use mathlib.Core.Path.{_≡_, refl, sym, subst}
-use mathlib.Core.Bool.{Bool, true, false, cond, not}
+use mathlib.Core.Bool.{Bool, true, false, cond}
 use lib.Dec.{T}
 
 -- with the equation
@@ -21,11 +21,7 @@ IsTrue false = ⊥
 pub not-both {ℓ} : {X : Type ℓ} → false ≡ true → X
 not-both e = absurd (subst IsTrue (sym e) tt)
 
--- what a walk learns where a test holds, and where it fails
+-- what a walk learns where a test holds
 pub held : (b : Bool) → T b → b ≡ true
 held true h = refl
 held false h = absurd h
-
-pub not-held : (b : Bool) → T (not b) → b ≡ false
-not-held true h = absurd h
-not-held false h = refl

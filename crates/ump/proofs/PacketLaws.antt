@@ -54,14 +54,10 @@ packet-length (w ∷ s) = go (leb (size w) (length (w ∷ s)))
     go true = omega (arith, length-take (size w) (w ∷ s))
     go false = omega arith
 
--- a list by its first element
+-- a list of no elements
 pub at-none : (p : List ℕ) → length p ≡ 0 → p ≡ []
 at-none [] h = refl
 at-none (w ∷ s) h = absurd (omega arith)
-
-pub at-first : (p : List ℕ) → (length p ≡ 0 → ⊥) → p ≡ getD p 0 0 ∷ drop 1 p
-at-first [] h = absurd (h refl)
-at-first (w ∷ s) h = refl
 
 -- a whole packet is the packet that stands first in it
 pub packet-whole : (p : List ℕ) → Whole p → packet p ≡ p
