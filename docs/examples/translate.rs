@@ -11,6 +11,7 @@ struct Record {
     address_bank: u8,
     address_index: u8,
     data_high: u8,
+    coarse: u8,
 }
 
 #[repr(C)]

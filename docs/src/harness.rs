@@ -1,15 +1,23 @@
-//! Holds single calls, runs and questions of the product's static library to the reading, or times
-//! both.
-//! Usage: harness [CASES] with the number of random cases, which follow a million swept ones;
+//! Holds single calls, runs, questions and marks of the product's static library to the reading, or
+//! times both.
+//! Usage: harness [CASES] with the number of random cases, which follow two million swept ones;
 //! or: harness time
 
+mod entries;
 mod packets;
 mod tally;
 mod timing;
 
-use packets::{bad_packet, every_place, packet_about_keys, Dice, Named};
-use reading::{empty, keys_down, size, Done, Keys, Record, MISSING};
-use tally::{Asked, KeyVoices};
+use entries::{entry, every_value, Entries, ENTRIES};
+use packets::{
+    bad_packet, every_place, packet_about_data, packet_about_keys, place_of, record_number, Dice,
+    Named,
+};
+use reading::{
+    empty, keys_down, mark_coarse, size, Done, Keys, Record, COARSE, FINE, MISSING, OUTPUT_SHORT,
+    SENT, TAKEN_IN,
+};
+use tally::{Asked, KeyVoices, Marks};
 
 #[link(name = "quernbrae", kind = "static")]
 extern "C" {
@@ -38,6 +46,13 @@ extern "C" {
         out_len: usize,
     ) -> Done;
     fn quernbrae_keys_down(table: *const Record, records: usize, group: u8, channel: u8) -> Keys;
+    fn quernbrae_mark_coarse(
+        table: *mut Record,
+        records: usize,
+        group: u8,
+        channel: u8,
+        coarse: u8,
+    ) -> u32;
 }
 
 const DEFAULT_CASES: usize = 1_000_000;
@@ -45,11 +60,14 @@ const DEFAULT_CASES: usize = 1_000_000;
 /// The longest table that is lent, and the records kept behind it.
 const TABLE_SPACE: usize = 512 + 8;
 
-/// Lengths of tables for the question, of which one is right.
+/// Lengths of tables for the question and for marks, of which one is right.
 const LENGTHS: [usize; 9] = [0, 1, 16, 255, 256, 257, 272, 511, 512];
 
 /// Groups and channels at the edges of their range and of a byte.
 const EDGE_PLACES: [u8; 10] = [0, 1, 7, 14, 15, 16, 17, 128, 254, 255];
+
+/// Marks of a record, of which two are sound.
+const EDGE_MARKS: [u8; 4] = [FINE, COARSE, 2, 255];
 
 /// Words behind the stream and behind the output that a call must leave alone.
 const GUARDS: usize = 16;
@@ -135,8 +153,7 @@ impl Lent {
 
     /// The number of the record that belongs to the first packet, if that is a voice.
     fn own(&self) -> usize {
-        let first = self.words.first().copied().unwrap_or(0);
-        (first >> 20 & 0xF0 | first >> 16 & 0x0F) as usize
+        record_number(self.words.first().copied().unwrap_or(0))
     }
 
     fn set_room(&mut self, room: usize, filler: u32) {
@@ -190,6 +207,23 @@ impl Lent {
         // So many records are there.
         unsafe { quernbrae_keys_down(table, records, group, channel) }
     }
+
+    fn product_mark(&mut self, records: usize, [group, channel]: [u8; 2], coarse: u8) -> u32 {
+        let table = self.table[..records].as_mut_ptr();
+        // So many records are there.
+        unsafe { quernbrae_mark_coarse(table, records, group, channel, coarse) }
+    }
+}
+
+/// Group and channel of a record.
+fn group_and_channel(number: usize) -> [u8; 2] {
+    [(number / 16) as u8, (number % 16) as u8]
+}
+
+/// The record of a group and a channel, if both are in range.
+fn named_record(table: &[Record], [group, channel]: [u8; 2]) -> Option<Record> {
+    let number = 16 * usize::from(group) + usize::from(channel);
+    (group < 16 && channel < 16).then(|| table[number])
 }
 
 /// The case in hand, a copy for either side, and what was seen so far.
@@ -203,7 +237,9 @@ struct Comparison {
     seen: [[usize; 11]; 4],
     named: [Named; 4],
     key_voices: KeyVoices,
+    entries: Entries,
     asked: Asked,
+    marks: Marks,
 }
 
 impl Comparison {
@@ -218,7 +254,9 @@ impl Comparison {
             seen: [[0; 11]; 4],
             named: [(); 4].map(|_| Named::new()),
             key_voices: KeyVoices::new(),
+            entries: Entries::new(),
             asked: Asked::new(),
+            marks: Marks::new(),
         }
     }
 
@@ -242,6 +280,7 @@ impl Comparison {
             let own = self.case.own();
             let rows = [self.case.table[own], self.reading.table[own]];
             self.key_voices.count(*word, expected.answer, rows);
+            self.entries.count(*word, expected.answer, &rows[0]);
         }
         if function.runs() && expected.answer == reading::OUTPUT_SHORT {
             self.take_up_again(function);
@@ -268,6 +307,11 @@ impl Comparison {
         }
         self.hold(function, total, whole);
         self.taken_up_again += 1;
+    }
+
+    /// The table that a case left is that of the next.
+    fn carry_on(&mut self) {
+        self.case.table.copy_from_slice(&self.reading.table);
     }
 
     /// Asks both sides for the keys of a channel, over so many records of the tables as they are.
@@ -299,6 +343,43 @@ impl Comparison {
         let records = self.dice.pick(&LENGTHS);
         let (group, channel) = (self.dice.pick(&EDGE_PLACES), self.dice.pick(&EDGE_PLACES));
         self.ask(records, group, channel);
+    }
+
+    /// Marks a channel on both sides, over so many records of the case's table, and carries on.
+    fn mark(&mut self, records: usize, place: [u8; 2], coarse: u8) {
+        for side in [&mut self.product, &mut self.reading] {
+            side.table.copy_from_slice(&self.case.table);
+        }
+        let answer = self.product.product_mark(records, place, coarse);
+        let [group, channel] = place;
+        let expected = mark_coarse(&mut self.reading.table[..records], group, channel, coarse);
+        let before = named_record(&self.case.table, place);
+        self.marks.count(expected, coarse, before);
+        let (product, reading) = (&self.product.table, &self.reading.table);
+        if answer == expected && product == reading {
+            self.carry_on();
+            return;
+        }
+        println!("DIFFERENCE in mark {}", self.marks.calls());
+        println!("records: {records}, group: {group}, channel: {channel}, coarse: {coarse}");
+        println!("its record: {before:X?}");
+        println!("product: {answer}\nreading: {expected}");
+        show_difference("record", &self.case.table, product, reading);
+        std::process::exit(1);
+    }
+
+    /// Marks over the table that a case left: the channel of its first packet, any channel, and
+    /// edges, over any length.
+    fn mark_after(&mut self) {
+        self.carry_on();
+        for number in [self.case.own(), self.dice.below(256)] {
+            let coarse = throw_mark(&mut self.dice);
+            self.mark(256, group_and_channel(number), coarse);
+        }
+        let records = self.dice.pick(&LENGTHS);
+        let place = [(); 2].map(|_| self.dice.pick(&EDGE_PLACES));
+        let coarse = throw_mark(&mut self.dice);
+        self.mark(records, place, coarse);
     }
 
     fn hold(&self, function: Function, done: Done, expected: Done) {
@@ -345,7 +426,12 @@ impl Comparison {
     fn every_first_word(&mut self) {
         for head in 0..0x1_0000 {
             let keys = throw_keys(&mut self.dice);
-            self.case.table.fill(Record { keys, ..empty() });
+            let coarse = self.dice.pick(&[FINE, COARSE]);
+            self.case.table.fill(Record {
+                keys,
+                coarse,
+                ..empty()
+            });
             let mut packet = [0; 4].map(|_: u32| self.dice.word());
             packet[0] = head << 16 | packet[0] & self.dice.pick(&[0x7F7F, 0xFFFF]);
             self.single(Up, packet);
@@ -412,17 +498,14 @@ impl Comparison {
         self.case.table.fill(empty());
     }
 
-    /// Records with every number at its edges, sound or not, under each sort of packet.
+    /// Records with every number at its edges, sound or not, under each sort of packet and marked
+    /// in both ways.
     fn every_record(&mut self) {
         const EDGES: [u8; 5] = [0, 127, 128, 254, MISSING];
-        const WORDS: [u32; 13] = [
-            0x2F9F3C40, 0x2F8F4040, 0x2FBF7800, 0x2FBF7900, 0x2FBF7B00, 0x2FBF0001, 0x2FBF0602,
-            0x2FBF2603, 0x2FBF6204, 0x2FBF6305, 0x2FBF6406, 0x2FBF6507, 0x2FCF0800,
-        ];
         for kind in [0, 1, 2, 3, 255, 256, 65535] {
             for numbers in 0..5_usize.pow(5) {
                 let number = |place: u32| EDGES[numbers / 5_usize.pow(place) % 5];
-                self.case.table[255] = Record {
+                let record = Record {
                     keys: throw_keys(&mut self.dice),
                     kind,
                     bank_high: number(0),
@@ -430,12 +513,54 @@ impl Comparison {
                     address_bank: number(2),
                     address_index: number(3),
                     data_high: number(4),
+                    coarse: FINE,
                 };
-                for word in WORDS {
-                    self.single(Up, [word, 0, 0, 0]);
+                for coarse in EDGE_MARKS {
+                    self.last_record(Record { coarse, ..record });
                 }
             }
         }
+    }
+
+    fn last_record(&mut self, record: Record) {
+        const WORDS: [u32; 13] = [
+            0x2F9F3C40, 0x2F8F4040, 0x2FBF7800, 0x2FBF7900, 0x2FBF7B00, 0x2FBF0001, 0x2FBF0602,
+            0x2FBF2603, 0x2FBF6204, 0x2FBF6305, 0x2FBF6406, 0x2FBF6507, 0x2FCF0800,
+        ];
+        self.case.table[255] = record;
+        for word in WORDS {
+            self.single(Up, [word, 0, 0, 0]);
+        }
+        for coarse in [0, 1, self.dice.word() as u8] {
+            self.case.table[255] = record;
+            self.mark(256, [15, 15], coarse);
+        }
+    }
+
+    /// Data entry packet by packet and then in runs, over tables with marks on half of the channels
+    /// on average.
+    fn every_data_entry(&mut self) {
+        for _ in 0..20 {
+            let places = [(); 4].map(|_| place_of(self.dice.below(256)));
+            let mut words = every_value(places[0]);
+            for (number, place) in (0..ENTRIES).zip(places.iter().cycle()) {
+                words.extend(entry(&mut self.dice, number, *place));
+            }
+            self.case.table.fill_with(|| marked_record(&mut self.dice));
+            for word in &words {
+                self.single(Up, [*word, 0, 0, 0]);
+                self.carry_on();
+            }
+            self.ask_after();
+            for room in [2 * words.len(), words.len() / 2] {
+                self.case.table.fill_with(|| marked_record(&mut self.dice));
+                self.case.words.clone_from(&words);
+                self.case.words_len = words.len();
+                self.case.set_room(room, 0xAAAA_AAAA);
+                self.compare(RunUp);
+            }
+        }
+        self.case.table.fill(empty());
     }
 }
 
@@ -488,6 +613,51 @@ impl Comparison {
     }
 }
 
+/// Sweeps over marks.
+impl Comparison {
+    /// Every group with every channel over 256 records of all sorts, and edges of both over other
+    /// lengths.
+    fn every_channel_marked(&mut self) {
+        for group in 0..=255 {
+            for channel in 0..=255 {
+                if channel == 0 {
+                    self.case.table.fill_with(|| any_record(&mut self.dice));
+                }
+                let coarse = throw_mark(&mut self.dice);
+                self.mark(256, [group, channel], coarse);
+            }
+        }
+        for records in LENGTHS {
+            for group in EDGE_PLACES {
+                for channel in EDGE_PLACES {
+                    self.case.table.fill_with(|| any_record(&mut self.dice));
+                    for coarse in [0, 1, 255] {
+                        self.mark(records, [group, channel], coarse);
+                    }
+                }
+            }
+        }
+        self.case.table.fill(empty());
+    }
+
+    /// Every number that can be given for a mark, over records of all sorts on every channel.
+    fn every_mark(&mut self) {
+        for coarse in 0..=255 {
+            self.case.table.fill_with(|| any_record(&mut self.dice));
+            for number in 0..256 {
+                self.mark(256, group_and_channel(number), coarse);
+            }
+        }
+        self.case.table.fill(empty());
+    }
+}
+
+/// A number for the marking call, half of the time 0.
+fn throw_mark(dice: &mut Dice) -> u8 {
+    let any = dice.word() as u8;
+    dice.pick(&[0, 0, 0, 1, 255, any])
+}
+
 /// Keys of a channel: none, all, one, those of one half, or any.
 fn throw_keys(dice: &mut Dice) -> [u64; 2] {
     let [low, high] = [(); 2].map(|_| u64::from(dice.word()) << 32 | u64::from(dice.word()));
@@ -510,8 +680,16 @@ fn number(dice: &mut Dice) -> u8 {
     }
 }
 
+/// A record that is empty but for a mark, if it has one.
+fn marked_record(dice: &mut Dice) -> Record {
+    Record {
+        coarse: dice.pick(&[FINE, COARSE]),
+        ..empty()
+    }
+}
+
 fn sound_record(dice: &mut Dice) -> Record {
-    let mut record = empty();
+    let mut record = marked_record(dice);
     record.keys = throw_keys(dice);
     record.bank_high = number(dice);
     record.bank_low = number(dice);
@@ -523,7 +701,8 @@ fn sound_record(dice: &mut Dice) -> Record {
     record.address_index = number(dice);
     let address = (record.kind, record.address_bank, record.address_index);
     let complete = address.1 != MISSING && address.2 != MISSING;
-    if complete && address != (reading::REGISTERED, 127, 127) {
+    let takes_data = complete && address != (reading::REGISTERED, 127, 127);
+    if takes_data && record.coarse == FINE {
         record.data_high = number(dice);
     }
     record
@@ -533,7 +712,7 @@ fn sound_record(dice: &mut Dice) -> Record {
 fn spoiled_record(dice: &mut Dice) -> Record {
     let mut record = sound_record(dice);
     let too_much = 128 + dice.below(127) as u8;
-    match dice.below(11) {
+    match dice.below(13) {
         0 => record.bank_high = too_much,
         1 => record.bank_low = too_much,
         2 => record.address_bank = too_much,
@@ -549,6 +728,11 @@ fn spoiled_record(dice: &mut Dice) -> Record {
             record.address_index = 127;
             record.data_high = number(dice);
         }
+        10 => record.coarse = dice.pick(&[2, 3, 127, 128, 254, 255, too_much]),
+        11 => {
+            record.data_high = dice.below(128) as u8;
+            record.coarse = COARSE;
+        }
         _ => {
             let [a, b, c, d] = dice.word().to_le_bytes();
             record = Record {
@@ -563,8 +747,17 @@ fn spoiled_record(dice: &mut Dice) -> Record {
     record
 }
 
+/// A sound record twice out of three times.
+fn any_record(dice: &mut Dice) -> Record {
+    match dice.below(3) {
+        0 => spoiled_record(dice),
+        _ => sound_record(dice),
+    }
+}
+
 /// Records to cut tables from.
 struct Pool {
+    marked: Vec<Record>,
     sound: Vec<Record>,
     spoiled: Vec<Record>,
 }
@@ -574,6 +767,7 @@ impl Pool {
 
     fn new(dice: &mut Dice) -> Pool {
         Pool {
+            marked: (0..Pool::SIZE).map(|_| marked_record(dice)).collect(),
             sound: (0..Pool::SIZE).map(|_| sound_record(dice)).collect(),
             spoiled: (0..Pool::SIZE).map(|_| spoiled_record(dice)).collect(),
         }
@@ -589,7 +783,8 @@ fn throw_table(dice: &mut Dice, pool: &Pool, lent: &mut Lent) {
     let own = lent.own();
     let table = &mut lent.table;
     match dice.below(8) {
-        0 | 1 => table.fill(empty()),
+        0 => table.fill(empty()),
+        1 => cut_table(dice, &pool.marked, table),
         2..=4 => cut_table(dice, &pool.sound, table),
         5 => {
             cut_table(dice, &pool.sound, table);
@@ -638,7 +833,11 @@ fn throw_packet(dice: &mut Dice, function: Function) -> [u32; 4] {
     let voice = if function.goes_up() { 2 } else { 4 };
     let any_type = dice.below(16) as u32;
     let message_type = dice.pick(&[voice, any_type]);
-    packet_about_keys(dice, message_type)
+    if dice.one_in(2) {
+        packet_about_keys(dice, message_type)
+    } else {
+        packet_about_data(dice, message_type)
+    }
 }
 
 fn damage(dice: &mut Dice, words: &mut [u32]) {
@@ -670,7 +869,40 @@ impl Comparison {
         self.compare(function);
         if function.goes_up() {
             self.ask_after();
+            self.mark_after();
         }
+    }
+
+    /// A channel is marked, unmarked and marked again between runs, with questions behind each.
+    fn mark_between_runs(&mut self, pool: &Pool) {
+        throw_words(&mut self.dice, RunUp, &mut self.case);
+        throw_table(&mut self.dice, pool, &mut self.case);
+        let number = self.case.own();
+        for coarse in [1, 0, throw_mark(&mut self.dice), 0] {
+            self.mark(256, group_and_channel(number), coarse);
+            self.throw_data_entry(number);
+            self.compare(RunUp);
+            self.carry_on();
+            self.ask_after();
+        }
+    }
+
+    /// Data entry on a channel before any stream, and mostly room for all that is sent.
+    fn throw_data_entry(&mut self, number: usize) {
+        throw_words(&mut self.dice, RunUp, &mut self.case);
+        let mut words = vec![];
+        for _ in 0..1 + self.dice.below(4) {
+            let which = self.dice.below(ENTRIES);
+            words.extend(entry(&mut self.dice, which, place_of(number)));
+        }
+        self.case.words_len += words.len();
+        self.case.words.splice(..0, words);
+        let room = match self.dice.below(4) {
+            0 => self.dice.below(self.case.words_len),
+            _ => 2 * self.case.words_len,
+        };
+        let filler = self.dice.word();
+        self.case.set_room(room, filler);
     }
 
     /// How often each answer and each place was seen; fails if one that can occur was not.
@@ -699,7 +931,9 @@ impl Comparison {
             }
             complete &= named.all_of(function.named_types());
         }
-        complete &= self.key_voices.summary() & self.asked.summary();
+        complete &= self.key_voices.summary();
+        complete &= self.entries.summary("Up", &[SENT, TAKEN_IN, OUTPUT_SHORT]);
+        complete &= self.asked.summary() & self.marks.summary();
         if !complete {
             println!("something that can occur was never seen");
             std::process::exit(1);
@@ -733,11 +967,17 @@ fn compare_all(random_cases: usize) {
     comparison.every_midi_2_voice();
     comparison.every_bad_place();
     comparison.every_record();
+    comparison.every_data_entry();
     comparison.every_channel_asked();
     comparison.every_key_asked();
+    comparison.every_channel_marked();
+    comparison.every_mark();
     let pool = Pool::new(&mut comparison.dice);
     for _ in 0..random_cases {
         comparison.random(&pool);
+    }
+    for _ in 0..random_cases / 20 {
+        comparison.mark_between_runs(&pool);
     }
     comparison.summary();
 }

@@ -76,6 +76,16 @@ fn system(dice: &mut Dice, thrown: u32) -> u32 {
     thrown & !clear | status << 16
 }
 
+/// The number of the record that belongs to a voice packet with this first word.
+pub fn record_number(first: u32) -> usize {
+    (first >> 20 & 0xF0 | first >> 16 & 0x0F) as usize
+}
+
+/// Group and channel of a record, where they stand in a first word.
+pub fn place_of(number: usize) -> u32 {
+    (number as u32 & 0xF0) << 20 | (number as u32 & 0x0F) << 16
+}
+
 /// Group and channel; mostly few of them, so that their records are met again.
 fn place(dice: &mut Dice, thrown: u32) -> u32 {
     if dice.one_in(4) {
@@ -131,6 +141,31 @@ fn voice_about_keys(dice: &mut Dice) -> u32 {
     };
     let thrown = dice.word();
     place(dice, thrown) | status << 20 | first << 8 | second
+}
+
+/// A packet like those of `packet`, but half of the MIDI 1.0 voices are about data entry.
+pub fn packet_about_data(dice: &mut Dice, message_type: u32) -> [u32; 4] {
+    let mut words = packet(dice, message_type);
+    if message_type == 2 && dice.one_in(2) {
+        words[0] = 0x2000_0000 | voice_about_data(dice);
+    }
+    words
+}
+
+/// Mostly a channel keeps to one kind of address, so that both halves of it come together.
+fn voice_about_data(dice: &mut Dice) -> u32 {
+    let thrown = dice.word();
+    let place = place(dice, thrown);
+    let registered = (place >> 16 & 1 == 0) != dice.one_in(8);
+    let [bank, index] = if registered { [101, 100] } else { [99, 98] };
+    let (controller, value) = match dice.below(16) {
+        0..=2 => (bank, dice.pick(&EDGE_DATA)),
+        3..=5 => (index, dice.pick(&EDGE_DATA)),
+        6..=10 => (6, data(dice)),
+        11..=14 => (38, data(dice)),
+        _ => (dice.pick(&[121, 96, 97]), data(dice)),
+    };
+    place | 0x00B0_0000 | controller << 8 | value
 }
 
 fn exclusive(dice: &mut Dice, thrown: u32, second: &mut u32) -> u32 {

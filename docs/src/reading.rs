@@ -23,6 +23,9 @@ pub const NOT_256_RECORDS: u32 = 10;
 pub const ANSWERED: u32 = 0;
 pub const ABOVE_15: u32 = 24;
 
+// The marking call has this one, and 8, 10 and 24.
+pub const SET: u32 = 0;
+
 /// The number of a record that is not there.
 pub const MISSING: u8 = 255;
 
@@ -30,6 +33,10 @@ pub const MISSING: u8 = 255;
 pub const NONE: u16 = 0;
 pub const REGISTERED: u16 = 1;
 pub const ASSIGNABLE: u16 = 2;
+
+// The marks of a record.
+pub const FINE: u8 = 0;
+pub const COARSE: u8 = 1;
 
 /// Stands for the lowest key where no key is down.
 pub const NO_KEY: u32 = 255;
@@ -46,6 +53,7 @@ pub struct Record {
     pub address_bank: u8,
     pub address_index: u8,
     pub data_high: u8,
+    pub coarse: u8,
 }
 
 /// The answer of a call or of a run, and the words it read and wrote. With bad data the place says
@@ -78,23 +86,39 @@ pub fn empty() -> Record {
         address_bank: MISSING,
         address_index: MISSING,
         data_high: MISSING,
+        coarse: FINE,
     }
 }
 
 impl Record {
-    /// Any keys may be down in a sound record.
+    /// Any keys may be down in a sound record. A coarse channel never keeps data high.
     fn sound(&self) -> bool {
-        let address = match self.kind {
-            NONE => [self.address_bank, self.address_index, self.data_high] == [MISSING; 3],
-            REGISTERED | ASSIGNABLE => self.data_high == MISSING || self.takes_data(),
+        let address = match (self.kind, self.coarse) {
+            (NONE, FINE | COARSE) => {
+                [self.address_bank, self.address_index, self.data_high] == [MISSING; 3]
+            }
+            (REGISTERED | ASSIGNABLE, FINE) => self.data_high == MISSING || self.takes_data(),
+            (REGISTERED | ASSIGNABLE, COARSE) => self.data_high == MISSING,
             _ => false,
         };
-        address
-            && sound_number(self.bank_high)
-            && sound_number(self.bank_low)
-            && sound_number(self.address_bank)
-            && sound_number(self.address_index)
-            && sound_number(self.data_high)
+        address && self.bad_numbers() == 0
+    }
+
+    /// The highest bit of each number, one to a byte, that is neither at most 127 nor missing.
+    fn bad_numbers(&self) -> u64 {
+        let numbers = u64::from_le_bytes([
+            self.bank_high,
+            self.bank_low,
+            self.address_bank,
+            self.address_index,
+            self.data_high,
+            0,
+            0,
+            0,
+        ]);
+        // Of the lower bits only those of 127 and of a missing number carry into the highest.
+        let carried = (numbers & 0x7F7F_7F7F_7F7F_7F7F) + 0x0101_0101_0101_0101;
+        numbers & !carried & 0x8080_8080_8080_8080
     }
 
     /// Both address halves are present and are not the null address.
@@ -124,6 +148,12 @@ impl Record {
         self.address_index = value;
     }
 
+    /// Data high goes even where the mark stays what it was.
+    fn set_mark(&mut self, mark: u8) {
+        self.coarse = mark;
+        self.data_high = MISSING;
+    }
+
     #[inline(always)]
     fn set_key(&mut self, key: u32, down: bool) {
         let bit = key % 64;
@@ -137,10 +167,6 @@ impl Record {
             _ => '.',
         }
     }
-}
-
-fn sound_number(number: u8) -> bool {
-    number <= 127 || number == MISSING
 }
 
 /// The null address, if registered; an assignable 127/127 is an ordinary address.
@@ -398,6 +424,22 @@ fn no_keys(answer: u32) -> Keys {
     }
 }
 
+/// Marks a channel coarse, or takes its mark off where `coarse` is 0.
+pub fn mark_coarse(table: &mut [Record], group: u8, channel: u8, coarse: u8) -> u32 {
+    let Some(table) = whole_table(table) else {
+        return NOT_256_RECORDS;
+    };
+    if group > 15 || channel > 15 {
+        return ABOVE_15;
+    }
+    let record = &mut table[16 * usize::from(group) + usize::from(channel)];
+    if !record.sound() {
+        return NOT_SOUND;
+    }
+    record.set_mark(if coarse == 0 { FINE } else { COARSE });
+    SET
+}
+
 /// Treats the packet at the start of the words, going down.
 pub fn down(words: &[u32], out: &mut [u32]) -> Done {
     down_packet(words, out)
@@ -488,8 +530,13 @@ fn up_control_change(word: u32, record: &mut Record, out: &mut [u32]) -> Done {
         100 => record.set_address_index(REGISTERED, value),
         99 => record.set_address_bank(ASSIGNABLE, value),
         98 => record.set_address_index(ASSIGNABLE, value),
-        6 if record.takes_data() => record.data_high = value,
-        38 if record.data_high != MISSING => return up_data(word, record, out),
+        6 if record.takes_data() => match record.coarse {
+            FINE => record.data_high = value,
+            _ => return up_data(word, record, [value, 0], out),
+        },
+        38 if record.data_high != MISSING => {
+            return up_data(word, record, [record.data_high, value], out)
+        }
         6 | 38 | 96 | 97 => (),
         120 | 123 => return up_silence(word, record, out),
         121 => return up_reset(word, record, out),
@@ -515,7 +562,7 @@ fn up_silence(word: u32, record: &mut Record, out: &mut [u32]) -> Done {
     done
 }
 
-/// Reset All Controllers goes on as itself and closes the address; bank halves and keys stay.
+/// Reset All Controllers goes on as itself and closes the address; bank halves, keys and mark stay.
 #[inline(always)]
 fn up_reset(word: u32, record: &mut Record, out: &mut [u32]) -> Done {
     let done = up_plain(word, out);
@@ -525,12 +572,12 @@ fn up_reset(word: u32, record: &mut Record, out: &mut [u32]) -> Done {
     done
 }
 
-/// The registered or assignable controller that data low completes.
+/// The registered or assignable controller that the record addresses, with both halves of its data.
 #[inline(always)]
-fn up_data(word: u32, record: &Record, out: &mut [u32]) -> Done {
+fn up_data(word: u32, record: &Record, [high, low]: [u8; 2], out: &mut [u32]) -> Done {
     let status = if record.kind == REGISTERED { 0x2 } else { 0x3 };
     let index = u32::from(record.address_bank) << 8 | u32::from(record.address_index);
-    let value = u32::from(record.data_high) << 7 | word & 127;
+    let value = u32::from(high) << 7 | u32::from(low);
     send(
         1,
         [midi_2_word(word, status, index), scale_up(value, 14, 32)],
@@ -637,10 +684,32 @@ fn down_program_change(first: u32, second: u32, out: &mut [u32]) -> Done {
     send(2, [bank_high, bank_low, program], out)
 }
 
-/// The text of the listing program for this standard input.
-pub fn listing(bytes: &[u8]) -> Vec<u8> {
-    let words = words_of(bytes);
+/// The table that programs start from: empty, but marked coarse where their arguments say so.
+/// There is none if one of these is not a group, a colon and a channel.
+pub fn marked_table(arguments: &[&str]) -> Option<[Record; 256]> {
     let mut table = [empty(); 256];
+    for argument in arguments {
+        let (group, channel) = argument.split_once(':')?;
+        let answer = mark_coarse(&mut table, decimal(group)?, decimal(channel)?, COARSE);
+        if answer != SET {
+            return None;
+        }
+    }
+    Some(table)
+}
+
+/// A number of one digit or two.
+fn decimal(digits: &str) -> Option<u8> {
+    match *digits.as_bytes() {
+        [one @ b'0'..=b'9'] => Some(one - b'0'),
+        [ten @ b'0'..=b'9', one @ b'0'..=b'9'] => Some(10 * (ten - b'0') + (one - b'0')),
+        _ => None,
+    }
+}
+
+/// The text of the listing program for this standard input, starting from this table.
+pub fn listing(bytes: &[u8], mut table: [Record; 256]) -> Vec<u8> {
+    let words = words_of(bytes);
     let mut text = String::new();
     let mut place = 0;
     while place < words.len() {
@@ -665,9 +734,8 @@ pub fn listing(bytes: &[u8]) -> Vec<u8> {
     text.into_bytes()
 }
 
-/// The standard output of the upward filter for this standard input.
-pub fn up_filter(bytes: &[u8]) -> Vec<u8> {
-    let mut table = [empty(); 256];
+/// The standard output of the upward filter for this standard input, starting from this table.
+pub fn up_filter(bytes: &[u8], mut table: [Record; 256]) -> Vec<u8> {
     filter(bytes, |words, out| run_up(words, &mut table, out))
 }
 
@@ -685,10 +753,9 @@ fn filter(bytes: &[u8], call: impl FnOnce(&[u32], &mut [u32]) -> Done) -> Vec<u8
     sent.flat_map(|word| word.to_be_bytes()).collect()
 }
 
-/// The standard output of the panel program for this standard input.
-pub fn panel(bytes: &[u8]) -> Vec<u8> {
+/// The standard output of the panel program for this standard input, starting from this table.
+pub fn panel(bytes: &[u8], mut table: [Record; 256]) -> Vec<u8> {
     let words = words_of(bytes);
-    let mut table = [empty(); 256];
     run_up(&words, &mut table, &mut vec![0; 2 * words.len()]);
     let mut text = String::new();
     for group in 0..16 {

@@ -166,7 +166,7 @@ fn bytes_of(words: &[u32]) -> Vec<u8> {
 fn listings() {
     let mut bytes = bytes_of(&[0x20903C40, 0x20B00001, 0x60000000]);
     let whole = "0 1 40903C00 80000000\n1 1\n4 1\n";
-    let text = |bytes: &[u8]| String::from_utf8(listing(bytes)).unwrap();
+    let text = |bytes: &[u8]| String::from_utf8(listing(bytes, fresh())).unwrap();
     assert_eq!(text(&[]), "");
     assert_eq!(text(&bytes), whole);
     for left_over in 1..4 {
@@ -187,7 +187,7 @@ fn listings_tell_the_place_of_bad_data_alone() {
         0x20903C80, 0x20908080, 0x10F20080, 0x30070000, 0, 0x30061122, 0x33445580, 0x20700080,
         0x40908000, 0, 0x60000080,
     ];
-    let text = listing(&bytes_of(&stream));
+    let text = listing(&bytes_of(&stream), fresh());
     let lines = "7 1 2\n7 1 1\n7 1 2\n7 2 1\n7 2 7\n6 1\n5 2\n4 1\n";
     assert_eq!(String::from_utf8(text).unwrap(), lines);
 }
@@ -198,11 +198,11 @@ fn filters_send_nothing_for_a_cut_end() {
     let up_sent = bytes_of(&[0x40903C00, 0x82080000, 0x31020102, 5]);
     let mut down_bytes = bytes_of(&[0x40903C00, 0x01FF0000, 0x40600000, 0]);
     let down_sent = bytes_of(&[0x20903C01]);
-    assert_eq!(up_filter(&[]), []);
+    assert_eq!(up_filter(&[], fresh()), []);
     for end in [&[][..], &[0xF0, 0, 0], &[0xF0, 0, 0, 0, 1, 2]] {
         up_bytes.extend(end);
         down_bytes.extend(end);
-        assert_eq!(up_filter(&up_bytes), up_sent);
+        assert_eq!(up_filter(&up_bytes, fresh()), up_sent);
         assert_eq!(down_filter(&down_bytes), down_sent);
         up_bytes.truncate(16);
         down_bytes.truncate(16);
@@ -1041,6 +1041,7 @@ fn the_layout_is_that_of_the_c_structs() {
     assert_eq!(std::ptr::addr_of!(record.kind) as usize - start, 16);
     assert_eq!(std::ptr::addr_of!(record.bank_high) as usize - start, 18);
     assert_eq!(std::ptr::addr_of!(record.data_high) as usize - start, 22);
+    assert_eq!(std::ptr::addr_of!(record.coarse) as usize - start, 23);
 }
 
 #[test]
@@ -1348,7 +1349,7 @@ fn lamps(keys: &[usize]) -> String {
 }
 
 fn panel_text(bytes: &[u8]) -> String {
-    String::from_utf8(panel(bytes)).unwrap()
+    String::from_utf8(panel(bytes, fresh())).unwrap()
 }
 
 #[test]
@@ -1387,4 +1388,569 @@ fn the_panel_shows_every_key_and_ignores_a_cut_end() {
         assert_eq!(panel_text(&bytes), line);
         bytes.truncate(4 * 128);
     }
+}
+
+fn coarse(kind: u16, numbers: [u8; 5]) -> Record {
+    Record {
+        coarse: COARSE,
+        ..record(kind, numbers)
+    }
+}
+
+/// The sound records without data high, with a mark and keys of their own.
+fn marked_records() -> Vec<Record> {
+    let without_data = SOUND_RECORDS.iter().filter(|(_, numbers)| numbers[4] == M);
+    let marked = without_data.map(|(kind, numbers)| coarse(*kind, *numbers));
+    let complete = [
+        coarse(REGISTERED, [1, 2, 3, 4, M]),
+        coarse(ASSIGNABLE, [M, M, 127, 127, M]),
+        coarse(REGISTERED, [1, M, 127, 126, M]),
+    ];
+    let mut all: Vec<Record> = marked.chain(complete).collect();
+    for (number, record) in (1..).zip(&mut all) {
+        record.keys = [number << 60 | 1, number];
+    }
+    all
+}
+
+fn marks(table: &[Record]) -> Vec<u8> {
+    table.iter().map(|record| record.coarse).collect()
+}
+
+#[test]
+fn an_empty_record_is_not_marked() {
+    assert_eq!(empty().coarse, 0);
+    assert_eq!((FINE, COARSE), (0, 1));
+}
+
+#[test]
+fn on_a_marked_channel_controller_6_sends_with_a_low_half_of_zero() {
+    for (value, scaled) in [
+        (0, 0),
+        (2, 0x0400_0000),
+        (64, 0x8000_0000),
+        (65, 0x8200_1000),
+        (127, 0xFE03_F01F),
+    ] {
+        let mut table = [coarse(REGISTERED, [M, M, 0, 0, M]); 256];
+        let sent_one = sent(1, &[0x40200000, scaled]);
+        assert_eq!(up_with(&mut table, &[0x20B00600 | value]), sent_one);
+    }
+    for (kind, status) in [(REGISTERED, 0x2), (ASSIGNABLE, 0x3)] {
+        for value in 0..128 {
+            let mut table = fresh();
+            table[0x5A] = coarse(kind, [1, 2, 3, 4, M]);
+            let before = table;
+            let result = up_with(&mut table, &[voice(CONTROL, 6, value)]);
+            let scaled = scale_up_of_004(128 * value, 14, 32);
+            assert_eq!(result, sent(1, &[0x450A0304 | status << 20, scaled]));
+            assert!(table == before);
+        }
+    }
+}
+
+#[test]
+fn on_a_marked_channel_a_data_entry_is_sent_once() {
+    for (address, first) in [([101, 100], 0x40200506), ([99, 98], 0x40300506)] {
+        let mut table = fresh();
+        assert_eq!(mark_coarse(&mut table, 0, 0, 1), SET);
+        let control = |index: u32, value: u32| 0x20B00000 | index << 8 | value;
+        let stream = [
+            control(address[0], 5),
+            control(address[1], 6),
+            control(6, 2),
+            control(38, 1),
+            control(38, 127),
+            control(6, 3),
+            control(38, 0),
+        ];
+        let (answers, words) = up_all(&mut table, &stream);
+        assert_eq!(answers, [1, 1, 0, 1, 1, 0, 1]);
+        assert_eq!(words, [first, 0x0400_0000, first, 0x0600_0000]);
+        assert_eq!((table[0].data_high, table[0].coarse), (M, COARSE));
+    }
+}
+
+#[test]
+fn on_a_marked_channel_controller_38_is_taken_in_and_does_nothing() {
+    for record in marked_records() {
+        for value in 0..128 {
+            let mut table = [record; 256];
+            let word = voice(CONTROL, 38, value);
+            assert_eq!(up_with(&mut table, &[word]), nothing(TAKEN_IN, 1));
+            assert_eq!(up(&[word], &mut table, &mut []), refused(TAKEN_IN, 1));
+            assert!(table == [record; 256]);
+        }
+    }
+}
+
+#[test]
+fn on_a_marked_channel_controller_6_needs_a_complete_address_that_is_not_null() {
+    let cases = [
+        (coarse(NONE, [M, M, M, M, M]), false),
+        (coarse(REGISTERED, [M, M, M, M, M]), false),
+        (coarse(REGISTERED, [M, M, 3, M, M]), false),
+        (coarse(REGISTERED, [M, M, M, 3, M]), false),
+        (coarse(ASSIGNABLE, [M, M, 3, M, M]), false),
+        (coarse(ASSIGNABLE, [M, M, M, 3, M]), false),
+        (coarse(REGISTERED, [M, M, 127, 127, M]), false),
+        (coarse(REGISTERED, [M, M, 127, 126, M]), true),
+        (coarse(REGISTERED, [M, M, 126, 127, M]), true),
+        (coarse(ASSIGNABLE, [M, M, 127, 127, M]), true),
+        (coarse(ASSIGNABLE, [M, M, 0, 0, M]), true),
+    ];
+    for (before, sends) in cases {
+        for value in [0, 1, 64, 127] {
+            let mut table = [before; 256];
+            let word = voice(CONTROL, 6, value);
+            let (answer, _, words) = up_with(&mut table, &[word]);
+            let short = up(&[word], &mut table, &mut [UNTOUCHED]);
+            if sends {
+                assert_eq!((answer, words.len()), (SENT, 2));
+                assert_eq!(short, stopped(OUTPUT_SHORT));
+            } else {
+                assert_eq!((answer, words.len()), (TAKEN_IN, 0));
+                assert_eq!(short, refused(TAKEN_IN, 1));
+            }
+            assert!(table == [before; 256]);
+        }
+    }
+}
+
+#[test]
+fn a_marked_send_needs_room_for_two_words() {
+    needs(2, |out| {
+        let mut table = [coarse(ASSIGNABLE, [1, 1, 1, 1, M]); 256];
+        let done = up(&[0x20B00605], &mut table, out);
+        assert!(table == [coarse(ASSIGNABLE, [1, 1, 1, 1, M]); 256]);
+        done
+    });
+}
+
+#[test]
+fn after_a_reset_a_marked_channel_is_quiet_until_it_is_addressed_again() {
+    let mut table = [coarse(NONE, [M; 5]); 256];
+    let stream = [
+        0x20B06500, 0x20B06400, 0x20B00602, 0x20B07900, 0x20B00602, 0x20B02600, 0x20B06400,
+        0x20B00602, 0x20B06500, 0x20B00602,
+    ];
+    let (answers, words) = up_all(&mut table, &stream);
+    assert_eq!(answers, [1, 1, 0, 0, 1, 1, 1, 1, 1, 0]);
+    let entry = [0x40200000, 0x0400_0000];
+    assert_eq!(words, [entry, [0x40B07900, 0], entry].concat());
+    assert_eq!(table[0], coarse(REGISTERED, [M, M, 0, 0, M]));
+}
+
+/// Every MIDI 1.0 voice but controller 6 does with a mark what it does without one.
+#[test]
+fn but_for_controller_6_a_mark_changes_nothing_that_is_sent_or_kept() {
+    let every_controller = (0..128).filter(|index| *index != 6);
+    let controllers = every_controller.map(|index| voice(CONTROL, index, 0x41));
+    let notes = [0x259A3C41, 0x259A3C00, 0x258A3C40, 0x25AA3C40];
+    let others = [0x25CA0500, 0x25DA4100, 0x25EA0140, 0x25FA0000, 0x259A3C80];
+    for word in controllers.chain(notes).chain(others) {
+        for record in marked_records() {
+            let unmarked = Record {
+                coarse: FINE,
+                ..record
+            };
+            let (mut table, mut other) = ([record; 256], [unmarked; 256]);
+            let result = up_with(&mut table, &[word]);
+            assert_eq!(up_with(&mut other, &[word]), result);
+            other.iter_mut().for_each(|record| record.coarse = COARSE);
+            assert!(table == other, "{word:08X}");
+        }
+    }
+}
+
+#[test]
+fn a_mark_is_of_its_own_channel_alone() {
+    let stream = [
+        0x25BA6503, 0x25BA6404, 0x25BA0605, 0x25BA2641, 0x25BA6303, 0x25BA6204, 0x25BA067F,
+        0x25BA267F,
+    ];
+    let mut unmarked = fresh();
+    let (answers, words) = up_all(&mut unmarked, &stream);
+    assert_eq!(answers, [1, 1, 1, 0, 1, 1, 1, 0]);
+    let mut others = [coarse(NONE, [M; 5]); 256];
+    others[0x5A] = empty();
+    assert_eq!(up_all(&mut others, &stream), (answers, words));
+    assert_eq!(others[0x5A], unmarked[0x5A]);
+    let mut own = fresh();
+    own[0x5A] = coarse(NONE, [M; 5]);
+    assert_eq!(up_all(&mut own, &stream).0, [1, 1, 0, 1, 1, 1, 0, 1]);
+}
+
+#[test]
+fn a_mark_must_be_0_or_1() {
+    for (kind, numbers) in SOUND_RECORDS {
+        for mark in 0..=255 {
+            let mut table = fresh();
+            table[0x5A] = Record {
+                coarse: mark,
+                ..record(kind, numbers)
+            };
+            let before = table;
+            let word = voice(0xA, 60, 64);
+            let sound = mark == 0 || mark == 1 && numbers[4] == M;
+            match sound {
+                true => assert_eq!(up_with(&mut table, &[word]).0, SENT),
+                false => assert_eq!(up_with(&mut table, &[word]), nothing(NOT_SOUND, 0)),
+            }
+            let done = run_up(&[0x10F80000, word], &mut table, &mut [0; 3]);
+            assert_eq!(done.answer, if sound { SENT } else { NOT_SOUND });
+            assert!(table == before);
+        }
+    }
+}
+
+#[test]
+fn a_marked_record_with_data_high_is_not_sound() {
+    for data_high in 0..128 {
+        for kind in [REGISTERED, ASSIGNABLE] {
+            let mut table = fresh();
+            table[0x5A] = record(kind, [1, 2, 3, 4, data_high]);
+            assert_eq!(up_with(&mut table, &[voice(CONTROL, 38, 0)]).0, SENT);
+            table[0x5A].coarse = COARSE;
+            let before = table;
+            for word in [(6, 5), (38, 5), (101, 5), (121, 0), (96, 0)] {
+                let word = voice(CONTROL, word.0, word.1);
+                assert_eq!(up_with(&mut table, &[word]), nothing(NOT_SOUND, 0));
+                assert_eq!(up(&[word], &mut table, &mut []), stopped(NOT_SOUND));
+            }
+            let bad_status = up_with(&mut table, &[voice(0xF, 0, 0)]);
+            assert_eq!(bad_status, nothing(BAD_STATUS, 1));
+            let bad_data = up_with(&mut table, &[voice(CONTROL, 6, 128)]);
+            assert_eq!(bad_data, nothing(BAD_DATA, 1));
+            assert!(table == before);
+        }
+    }
+}
+
+#[test]
+fn what_is_not_sound_without_a_mark_is_not_sound_with_one() {
+    for (kind, numbers) in NOT_SOUND_RECORDS {
+        for mark in [0, 1, 2, 255] {
+            let unsound = Record {
+                coarse: mark,
+                ..record(kind, numbers)
+            };
+            let mut table = [unsound; 256];
+            assert_eq!(up_with(&mut table, &[0x20903C40]), nothing(NOT_SOUND, 0));
+            assert_eq!(mark_coarse(&mut table, 0, 0, 1), NOT_SOUND);
+            assert_eq!(mark_coarse(&mut table, 0, 0, 0), NOT_SOUND);
+            assert!(table == [unsound; 256]);
+        }
+    }
+}
+
+#[test]
+fn the_marking_call_sets_a_mark_for_any_number_but_0() {
+    for before in [empty(), coarse(NONE, [M; 5])] {
+        for number in 0..=255 {
+            let mut table = [before; 256];
+            let mut expected = table;
+            expected[0x5A].coarse = if number == 0 { FINE } else { COARSE };
+            assert_eq!(mark_coarse(&mut table, 5, 10, number), SET);
+            assert!(table == expected);
+        }
+    }
+}
+
+#[test]
+fn the_marking_call_drops_data_high_and_keeps_the_rest() {
+    for (kind, numbers) in SOUND_RECORDS {
+        for before in [FINE, COARSE] {
+            if before == COARSE && numbers[4] != M {
+                continue;
+            }
+            for number in [0, 1, 2, 255] {
+                let mut table = [keyed(&[1, 126]); 256];
+                table[0x5A] = Record {
+                    keys: [0x1234_5678_9ABC_DEF0, 0x8000_0000_0000_0001],
+                    coarse: before,
+                    ..record(kind, numbers)
+                };
+                let mut expected = table;
+                expected[0x5A].data_high = M;
+                expected[0x5A].coarse = u8::from(number != 0);
+                assert_eq!(mark_coarse(&mut table, 5, 10, number), SET);
+                assert!(table == expected);
+            }
+        }
+    }
+}
+
+#[test]
+fn the_marking_call_marks_the_record_of_group_and_channel() {
+    for (group, channel) in (0..16).flat_map(|group| (0..16).map(move |channel| (group, channel))) {
+        // The other records need not be sound.
+        let mut table = [record(3, [200; 5]); 256];
+        let number = 16 * usize::from(group) + usize::from(channel);
+        table[number] = record(REGISTERED, [1, 2, 3, 4, 5]);
+        let mut expected = table;
+        expected[number] = coarse(REGISTERED, [1, 2, 3, 4, M]);
+        assert_eq!(mark_coarse(&mut table, group, channel, 1), SET);
+        assert!(table == expected);
+        expected[number].coarse = FINE;
+        assert_eq!(mark_coarse(&mut table, group, channel, 0), SET);
+        assert!(table == expected);
+    }
+}
+
+#[test]
+fn the_marking_call_refuses_another_table_then_a_channel_out_of_range_then_the_record() {
+    let (sound, unsound) = (record(ASSIGNABLE, [1, 2, 3, 4, 5]), record(3, [200; 5]));
+    for record in [sound, unsound] {
+        for length in [0, 1, 16, 255, 257, 512] {
+            let mut table = vec![record; length];
+            for (group, channel) in [(0, 0), (15, 15), (16, 0), (0, 16), (255, 255)] {
+                for number in [0, 1, 255] {
+                    let answer = mark_coarse(&mut table, group, channel, number);
+                    assert_eq!(answer, NOT_256_RECORDS);
+                }
+            }
+            assert_eq!(table, vec![record; length]);
+        }
+        let mut table = [record; 256];
+        for (group, channel) in (0..=255).flat_map(|g| (0..=255).map(move |c| (g, c))) {
+            let answer = match (group, channel) {
+                (0..=15, 0..=15) if record == sound => continue,
+                (0..=15, 0..=15) => 8,
+                _ => 24,
+            };
+            assert_eq!(mark_coarse(&mut table, group, channel, channel & 1), answer);
+        }
+        assert!(table == [record; 256]);
+    }
+}
+
+#[test]
+fn the_marking_call_refuses_a_record_with_an_unsound_mark() {
+    let numbers = [1, 2, 3, 4, M];
+    let with_data = coarse(REGISTERED, [1, 2, 3, 4, 5]);
+    let other_marks = [2, 3, 127, 128, 255].map(|mark| Record {
+        coarse: mark,
+        ..record(REGISTERED, numbers)
+    });
+    for unsound in other_marks.into_iter().chain([with_data]) {
+        let mut table = [unsound; 256];
+        for number in [0, 1, 2, 255] {
+            assert_eq!(mark_coarse(&mut table, 5, 10, number), NOT_SOUND);
+        }
+        assert!(table == [unsound; 256]);
+    }
+}
+
+#[test]
+fn a_mark_set_or_taken_off_within_a_data_entry_ends_it() {
+    let (address, high, low) = ([0x20B06503, 0x20B06404], 0x20B00605, 0x20B02601);
+    let entry = [0x40200304, scale_up(5 * 128 + 1, 14, 32)];
+    for (number, low_answer) in [(0, SENT), (1, TAKEN_IN)] {
+        let mut table = fresh();
+        up_all(&mut table, &address);
+        assert_eq!(up_all(&mut table, &[high]).0, [TAKEN_IN]);
+        assert_eq!(mark_coarse(&mut table, 0, 0, number), SET);
+        // The address stays, so that the data slider goes on by the rule of the new mark.
+        assert_eq!(up_all(&mut table, &[low]), (vec![TAKEN_IN], vec![]));
+        assert_eq!(up_all(&mut table, &[high, low]).0[1], low_answer);
+        assert_eq!(mark_coarse(&mut table, 0, 0, 0), SET);
+        assert_eq!(up_all(&mut table, &[low]), (vec![TAKEN_IN], vec![]));
+        assert_eq!(
+            up_all(&mut table, &[high, low]),
+            (vec![1, 0], entry.to_vec())
+        );
+    }
+}
+
+/// Numbers from a fixed seed.
+struct Thrown(u64);
+
+impl Thrown {
+    fn number(&mut self, below: u32) -> u32 {
+        self.0 = self.0.wrapping_mul(6_364_136_223_846_793_005);
+        self.0 = self.0.wrapping_add(1_442_695_040_888_963_407);
+        (self.0 >> 33) as u32 % below
+    }
+
+    fn of(&mut self, from: &[u32]) -> u32 {
+        from[self.number(from.len() as u32) as usize]
+    }
+
+    /// A table that is empty but for the marks of about half of its channels.
+    fn marked_table(&mut self) -> [Record; 256] {
+        fresh().map(|_| Record {
+            coarse: self.number(2) as u8,
+            ..empty()
+        })
+    }
+
+    /// Packets of all sorts on few channels, most of them control changes of a data entry.
+    fn stream(&mut self) -> Vec<u32> {
+        let mut words = vec![];
+        for _ in 0..self.number(200) {
+            let place = self.of(&[0, 0x00010000, 0x0F0F0000]);
+            let value = self.of(&[0, 1, 63, 64, 65, 126, 127, 127]);
+            let index = self.of(&[6, 6, 6, 38, 38, 98, 99, 100, 101, 0, 32, 96, 97, 121]);
+            let any = self.number(0x10000) << 16 | self.number(0x10000);
+            match self.number(12) {
+                0..=6 => words.push(0x20B00000 | place | index << 8 | value),
+                7 => words.push(0x20B00000 | place | self.number(128) << 8 | value),
+                8 => words.push(0x20C00000 | place | value << 8),
+                9 => words.push(0x20800000 | place | any & 0x00707F7F),
+                10 => words.push(0x20000000 | any & 0x0FFFFFFF),
+                _ => words.extend([any & 0xF0FFFFFF, any, any, any]),
+            }
+        }
+        words
+    }
+}
+
+/// The words that go up from this table; it has its last state then.
+fn went_up(words: &[u32], table: &mut [Record; 256]) -> Vec<u32> {
+    let mut out = vec![0; 2 * words.len()];
+    let done = run_up(words, table, &mut out);
+    assert!(done.answer == SENT || done.answer == CUT);
+    out.truncate(done.written);
+    out
+}
+
+fn went_down(words: &[u32]) -> Vec<u32> {
+    let mut out = vec![0; 2 * words.len()];
+    let done = run_down(words, &mut out);
+    assert_eq!((done.answer, done.read), (SENT, words.len()));
+    out.truncate(done.written);
+    out
+}
+
+#[test]
+fn what_went_up_and_down_goes_up_again_as_it_did_from_the_same_marks() {
+    let mut thrown = Thrown(1);
+    let mut at_once = 0;
+    for _ in 0..3_000 {
+        let start = thrown.marked_table();
+        let stream = thrown.stream();
+        let (mut first, mut second, mut third) = (start, start, start);
+        let sent_up = went_up(&stream, &mut first);
+        let normal = went_down(&sent_up);
+        assert_eq!(went_up(&normal, &mut second), sent_up);
+        // The normal form of a normal form is itself.
+        assert_eq!(went_down(&went_up(&normal, &mut third)), normal);
+        assert!(marks(&first) == marks(&start) && marks(&second) == marks(&start));
+        assert!(second == third);
+        at_once += usize::from(went_up(&stream, &mut fresh()) != sent_up);
+    }
+    assert!(at_once > 1_000);
+}
+
+#[test]
+fn the_round_trip_of_a_marked_channel() {
+    let table = marked_table(&["0:0"]).unwrap();
+    let entries = [0x20B06503, 0x20B06404, 0x20B00605, 0x20B02601, 0x20B00606];
+    let sent_up = went_up(&entries, &mut table.clone());
+    assert_eq!(sent_up, [0x40200304, 0x0A00_0000, 0x40200304, 0x0C00_0000]);
+    let normal = [
+        0x20B06503, 0x20B06404, 0x20B00605, 0x20B02600, 0x20B06503, 0x20B06404, 0x20B00606,
+        0x20B02600,
+    ];
+    assert_eq!(went_down(&sent_up), normal);
+    assert_eq!(went_up(&normal, &mut table.clone()), sent_up);
+    // Without the mark the data low of the normal form sends the same.
+    assert_eq!(went_up(&normal, &mut fresh()), sent_up);
+}
+
+#[test]
+fn no_packet_changes_a_mark_and_every_record_stays_sound() {
+    let mut thrown = Thrown(2);
+    for _ in 0..300 {
+        let mut table = thrown.marked_table();
+        let before = marks(&table);
+        for _ in 0..5 {
+            let stream = thrown.stream();
+            let room = thrown.number(2 * stream.len() as u32 + 1) as usize;
+            let done = run_up(&stream, &mut table, &mut vec![0; room]);
+            assert!([SENT, CUT, OUTPUT_SHORT].contains(&done.answer));
+            assert!(marks(&table) == before);
+            assert!(table.iter().all(Record::sound));
+        }
+    }
+    for status in 0..16 {
+        for data in [0x0000, 0x7900, 0x7F7F, 0x0605, 0x2605, 0x8000, 0x0080] {
+            for record in marked_records() {
+                let mut table = [record; 256];
+                up_with(&mut table, &[0x250A0000 | status << 20 | data]);
+                assert!(marks(&table) == [COARSE; 256]);
+            }
+        }
+    }
+}
+
+#[test]
+fn the_question_of_the_keys_does_not_ask_for_marks() {
+    for mark in [0, 1, 2, 255] {
+        let record = Record {
+            coarse: mark,
+            ..keyed(&[3, 63, 64])
+        };
+        assert_eq!(keys_down(&[record; 256], 5, 10), shown(3, 3));
+    }
+}
+
+#[test]
+fn arguments_name_the_channels_that_are_marked() {
+    assert_eq!(marked_table(&[]), Some(fresh()));
+    for group in 0..16 {
+        for channel in 0..16 {
+            let mut expected = fresh();
+            expected[16 * group + channel].coarse = COARSE;
+            for argument in [
+                format!("{group}:{channel}"),
+                format!("{group:02}:{channel:02}"),
+                format!("{group}:{channel:02}"),
+            ] {
+                assert_eq!(marked_table(&[&argument]), Some(expected));
+                assert_eq!(marked_table(&[&argument, &argument]), Some(expected));
+            }
+        }
+    }
+    let mut expected = fresh();
+    for number in [0x03, 0x20, 0x9C, 0xFF] {
+        expected[number].coarse = COARSE;
+    }
+    let arguments = ["0:3", "2:0", "9:12", "15:15"];
+    assert_eq!(marked_table(&arguments), Some(expected));
+}
+
+#[test]
+fn an_argument_that_names_no_channel_gives_no_table() {
+    for argument in [
+        "", ":", "0", "0:", ":0", "16:0", "0:16", "99:0", "0:99", "000:0", "0:003", "0:0:0", "0-0",
+        "0,0", " 0:0", "0:0 ", "0: 0", "+1:0", "0:+1", "-1:0", "0x1:0", "a:0", "0:f", "256:0",
+        "0:0\n", "1 :0", "٣:0",
+    ] {
+        assert_eq!(marked_table(&[argument]), None, "{argument:?}");
+        assert_eq!(marked_table(&["1:1", argument]), None);
+        assert_eq!(marked_table(&[argument, "1:1"]), None);
+    }
+}
+
+#[test]
+fn programs_start_from_the_marks_of_their_arguments() {
+    let table = marked_table(&["1:2", "15:15"]).unwrap();
+    let stream = [
+        0x21B26500, 0x21B26401, 0x21B20602, 0x21B22603, 0x20B06500, 0x20B06401, 0x20B00602,
+        0x20B02603, 0x219F3C40,
+    ];
+    let text = String::from_utf8(listing(&bytes_of(&stream), table)).unwrap();
+    let marked = "1 1\n1 1\n0 1 41220001 04000000\n1 1\n";
+    let unmarked = "1 1\n1 1\n1 1\n0 1 40200001 040C0000\n";
+    let note = "0 1 419F3C00 80000000\n";
+    assert_eq!(text, [marked, unmarked, note].concat());
+    let sent_up = [
+        0x41220001, 0x04000000, 0x40200001, 0x040C0000, 0x419F3C00, 0x80000000,
+    ];
+    assert_eq!(up_filter(&bytes_of(&stream), table), bytes_of(&sent_up));
+    let panel_of = |table| String::from_utf8(panel(&bytes_of(&stream), table)).unwrap();
+    assert_eq!(panel_of(table), format!("1 15 1 60 {}\n", lamps(&[60])));
+    assert_eq!(panel_of(table), panel_of(fresh()));
 }

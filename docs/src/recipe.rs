@@ -1,11 +1,17 @@
-//! Writes the stored standard input and the expected standard output of the four programs.
-//! Everything follows from the tables and seeds of this file, and from the scenes for the panel.
+//! Writes the stored arguments, the standard input and the expected standard output of the four
+//! programs. Everything follows from the tables and seeds of this file, from the data entries and
+//! from the scenes for the panel.
 
+mod entries;
 mod packets;
 mod scenes;
 
-use packets::{bad_packet, every_place, packet, packet_about_keys, Dice, Named, EDGE_VALUES};
-use reading::{size, Done, Record, BAD_DATA};
+use entries::{entry, every_value, Entries, ENTRIES};
+use packets::{
+    bad_packet, every_place, packet, packet_about_data, packet_about_keys, place_of, record_number,
+    Dice, Named, EDGE_VALUES,
+};
+use reading::{size, Done, Record, BAD_DATA, COARSE, SENT, TAKEN_IN};
 use std::path::Path;
 
 /// The words of one buffer of 64 KiB.
@@ -17,6 +23,8 @@ const AFTER_LAST_EDGE: usize = 1500;
 /// How the standard input of one program is put together.
 struct Plan {
     name: &'static str,
+    /// Channels to be marked coarse.
+    arguments: &'static [&'static str],
     seed: u64,
     examples: &'static [u32],
     every_case: fn(&mut Dice) -> Vec<u32>,
@@ -29,7 +37,8 @@ struct Plan {
     /// For each edge the type of the packet across it, and its words before the edge.
     straddles: [(u32, usize); 3],
     cut_end: &'static [u8],
-    output: fn(&[u8]) -> Vec<u8>,
+    /// The output for an input, from the table that the arguments give.
+    output: fn(&[u8], [Record; 256]) -> Vec<u8>,
     /// Fails unless the output shows what it must.
     check_output: fn(&[u8]),
     /// Treats the packet at the start of the words.
@@ -70,11 +79,12 @@ const TYPES_LISTING: [u32; 48] = [
 fn listing() -> Plan {
     Plan {
         name: "listing",
+        arguments: &["0:3", "1:0", "2:0", "05:07", "9:12", "15:15"],
         seed: 1,
         examples: &EXAMPLES_UP,
         every_case: every_case_up,
         types: &TYPES_LISTING,
-        mixed: packet,
+        mixed: packet_about_data,
         last: |_| vec![],
         straddles: [(0xD, 1), (0xB, 2), (0x3, 1)],
         cut_end: &[0xB0, 0, 0, 0, 0, 0, 0, 0, 0x20],
@@ -89,6 +99,8 @@ fn listing() -> Plan {
 fn up() -> Plan {
     Plan {
         name: "up",
+        // In no order, and one of them twice.
+        arguments: &["15:15", "0:1", "12:09", "3:14", "7:8", "15:15", "10:0"],
         seed: 2,
         types: &TYPES_UP,
         straddles: [(0x3, 1), (0xC, 2), (0x5, 3)],
@@ -101,13 +113,15 @@ fn up() -> Plan {
 fn down() -> Plan {
     Plan {
         name: "down",
+        arguments: &[],
         seed: 3,
         examples: &EXAMPLES_DOWN,
         every_case: every_case_down,
         types: &TYPES_DOWN,
+        mixed: packet,
         straddles: [(0x4, 1), (0xF, 3), (0xB, 2)],
         cut_end: &[0x40, 0x90, 0x3C, 0, 0x7F, 0xFF],
-        output: reading::down_filter,
+        output: |bytes, _| reading::down_filter(bytes),
         call: |words, _| reading::down(words, &mut [0; 4]),
         answers: &[0, 2, 4, 5, 6, 7],
         checked: &[1, 3, 4],
@@ -118,6 +132,7 @@ fn down() -> Plan {
 fn panel() -> Plan {
     Plan {
         name: "panel",
+        arguments: &[],
         seed: 4,
         types: &TYPES_UP,
         mixed: packet_about_keys,
@@ -184,6 +199,29 @@ fn every_case_up(dice: &mut Dice) -> Vec<u32> {
     stream
 }
 
+impl Plan {
+    fn table(&self) -> [Record; 256] {
+        reading::marked_table(self.arguments).expect("the arguments name channels")
+    }
+}
+
+/// Data entry on the marked channels, and on channels that share their group or their number.
+fn data_entry(plan: &Plan, dice: &mut Dice) -> Vec<u32> {
+    let table = plan.table();
+    let numbers = (0..256).filter(|number| table[*number].coarse == COARSE);
+    let marked: Vec<u32> = numbers.map(place_of).collect();
+    let beside = |place: &u32| [place ^ 0x0001_0000, place ^ 0x0100_0000];
+    let others: Vec<u32> = marked.iter().flat_map(beside).collect();
+    let mut stream = vec![];
+    for places in [&marked, &others] {
+        for (number, place) in (0..ENTRIES).zip(places.iter().cycle()) {
+            stream.extend(entry(dice, number, *place));
+        }
+    }
+    stream.extend(marked.first().map_or(vec![], |place| every_value(*place)));
+    stream
+}
+
 /// Every MIDI 2.0 status over the edges of its bytes and of its value, and every controller index.
 fn every_case_down(dice: &mut Dice) -> Vec<u32> {
     let mut stream = vec![];
@@ -223,12 +261,13 @@ fn push_mixed(dice: &mut Dice, plan: &Plan, stream: &mut Vec<u32>) {
     }
 }
 
-/// Examples, every case, every place of bad data, the random mix with a packet across each edge,
-/// and what stands behind it.
+/// Examples, every case, data entry, every place of bad data, the random mix with a packet across
+/// each edge, and what stands behind it.
 fn whole_packets(plan: &Plan) -> Vec<u32> {
     let mut dice = Dice::new(plan.seed);
     let mut stream = plan.examples.to_vec();
     stream.extend((plan.every_case)(&mut dice));
+    stream.extend(data_entry(plan, &mut dice));
     for bad in every_place(plan.checked) {
         let words = bad_packet(&mut dice, bad);
         stream.extend(&words[..size(words[0])]);
@@ -262,42 +301,67 @@ fn edges() -> impl Iterator<Item = usize> {
     (1..).map(|count| count * BUFFER)
 }
 
-/// Fails unless the stream has what the plan promises of it.
-fn check(plan: &Plan, stream: &[u32]) {
-    let mut table = [reading::empty(); 256];
-    let (mut types, mut answers, mut places) = ([0; 16], [0; 11], Named::new());
-    let mut straddled = vec![];
+/// What occurs in a stream.
+struct Seen {
+    types: [usize; 16],
+    answers: [usize; 11],
+    places: Named,
+    entries: Entries,
+    /// The sizes of the packets across an edge.
+    straddled: Vec<usize>,
+}
+
+fn see(plan: &Plan, stream: &[u32]) -> Seen {
+    let mut seen = Seen {
+        types: [0; 16],
+        answers: [0; 11],
+        places: Named::new(),
+        entries: Entries::new(),
+        straddled: vec![],
+    };
+    let mut table = plan.table();
     let mut place = 0;
     while place < stream.len() {
-        let size = size(stream[place]);
-        types[(stream[place] >> 28) as usize] += 1;
+        let first = stream[place];
+        let size = size(first);
+        let own = table[record_number(first)];
         let done = (plan.call)(&stream[place..], &mut table);
-        answers[done.answer as usize] += 1;
+        seen.types[(first >> 28) as usize] += 1;
+        seen.answers[done.answer as usize] += 1;
+        seen.entries.count(first, done.answer, &own);
         if done.answer == BAD_DATA {
-            places.count(stream[place], done.place);
+            seen.places.count(first, done.place);
         }
         if place / BUFFER != (place + size - 1) / BUFFER {
-            straddled.push(size);
+            seen.straddled.push(size);
         }
         place += size;
     }
-    assert!(place == stream.len() && types.iter().all(|count| *count > 0));
-    assert!(plan
-        .answers
-        .iter()
-        .all(|answer| answers[*answer as usize] > 0));
-    assert!(places.all_of(plan.checked));
-    assert_eq!(straddled.len(), stream.len() / BUFFER);
-    straddled.sort_unstable();
-    assert_eq!(straddled, [2, 3, 4]);
-    println!("{}: packets by type {:?}", plan.name, types);
-    println!("{}: answers {:?}, and 3 at the end", plan.name, answers);
+    assert_eq!(place, stream.len());
+    seen
+}
+
+/// Fails unless the stream has what the plan promises of it.
+fn check(plan: &Plan, stream: &[u32]) {
+    let mut seen = see(plan, stream);
+    assert!(seen.types.iter().all(|count| *count > 0));
+    let mut answers = plan.answers.iter();
+    assert!(answers.all(|answer| seen.answers[*answer as usize] > 0));
+    assert!(seen.places.all_of(plan.checked));
+    assert_eq!(seen.straddled.len(), stream.len() / BUFFER);
+    seen.straddled.sort_unstable();
+    assert_eq!(seen.straddled, [2, 3, 4]);
+    println!("{}: packets by type {:?}", plan.name, seen.types);
+    println!(
+        "{}: answers {:?}, and 3 at the end",
+        plan.name, seen.answers
+    );
     for message_type in plan.checked {
-        let named = places.of_type(*message_type);
-        println!(
-            "{}: bad places of type {} {:?}",
-            plan.name, message_type, named
-        );
+        let named = seen.places.of_type(*message_type);
+        println!("{}: bad places of type {message_type} {named:?}", plan.name);
+    }
+    if !plan.arguments.is_empty() {
+        assert!(seen.entries.summary(plan.name, &[SENT, TAKEN_IN]));
     }
 }
 
@@ -306,10 +370,13 @@ fn write(plan: &Plan, folder: &Path) -> std::io::Result<()> {
     check(plan, &stream);
     let mut input: Vec<u8> = stream.iter().flat_map(|word| word.to_be_bytes()).collect();
     input.extend(plan.cut_end);
-    let output = (plan.output)(&input);
+    let output = (plan.output)(&input, plan.table());
     (plan.check_output)(&output);
     let folder = folder.join(plan.name);
     std::fs::create_dir_all(&folder)?;
+    if !plan.arguments.is_empty() {
+        std::fs::write(folder.join("args"), plan.arguments.join("\n") + "\n")?;
+    }
     std::fs::write(folder.join("stdout"), output)?;
     std::fs::write(folder.join("stdin"), input)
 }

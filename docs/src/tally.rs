@@ -1,6 +1,9 @@
-//! What a comparison has seen of keys and of the question about them.
+//! What a comparison has seen of keys, of the question about them and of the marking call.
 
-use reading::{Keys, Record, ABOVE_15, ANSWERED, NOT_256_RECORDS, NOT_SOUND, OUTPUT_SHORT, SENT};
+use reading::{
+    Keys, Record, ABOVE_15, ANSWERED, COARSE, FINE, MISSING, NOT_256_RECORDS, NOT_SOUND,
+    OUTPUT_SHORT, SENT, SET,
+};
 
 /// The MIDI 1.0 voices that move keys, and the reset, which moves none.
 const SORTS: [&str; 6] = [
@@ -108,5 +111,60 @@ impl Asked {
         answers.iter().chain(&self.down).all(|count| *count > 0)
             && self.lowest[..128].iter().all(|count| *count > 0)
             && self.lowest[255] > 0
+    }
+}
+
+/// Which way a record was marked before, and which way it was to be marked.
+const WAYS: [[u8; 2]; 4] = [
+    [FINE, FINE],
+    [FINE, COARSE],
+    [COARSE, FINE],
+    [COARSE, COARSE],
+];
+
+/// How often the marking call gave each answer, and what it did to sound records.
+pub struct Marks {
+    answers: [[usize; 25]; 2],
+    ways: [usize; WAYS.len()],
+    data_high_dropped: [usize; 2],
+}
+
+impl Marks {
+    pub fn new() -> Marks {
+        Marks {
+            answers: [[0; 25]; 2],
+            ways: [0; WAYS.len()],
+            data_high_dropped: [0; 2],
+        }
+    }
+
+    /// Counts a call for this mark, with the record that it names before it, if there is one.
+    pub fn count(&mut self, answer: u32, coarse: u8, before: Option<Record>) {
+        let mark = coarse.min(COARSE);
+        self.answers[usize::from(mark)][answer as usize] += 1;
+        if let (SET, Some(before)) = (answer, before) {
+            let way = WAYS.iter().position(|way| *way == [before.coarse, mark]);
+            self.ways[way.expect("a sound record has a mark or none")] += 1;
+            let dropped = usize::from(before.data_high != MISSING);
+            self.data_high_dropped[usize::from(mark)] += dropped;
+        }
+    }
+
+    pub fn calls(&self) -> usize {
+        self.answers.as_flattened().iter().sum()
+    }
+
+    /// Prints the counts; false if an answer or a way never came, or data high was never dropped.
+    pub fn summary(&self) -> bool {
+        let shown = [SET, NOT_SOUND, NOT_256_RECORDS, ABOVE_15];
+        let [off, on] = self
+            .answers
+            .map(|answers| shown.map(|n| answers[n as usize]));
+        println!("{} marks without a difference", self.calls());
+        println!("the marking call answered 0, 8, 10, 24: taking off {off:?}, setting {on:?}");
+        let [ways, dropped] = [&self.ways[..], &self.data_high_dropped];
+        println!("it marked {WAYS:?}: {ways:?}, and dropped data high: {dropped:?}");
+        let mut all = off.iter().chain(&on).chain(ways).chain(dropped);
+        all.all(|count| *count > 0)
     }
 }
