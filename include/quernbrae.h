@@ -26,10 +26,10 @@ enum {
     QUERNBRAE_WRONG_PROTOCOL = 5, /* MIDI 2.0 voice going up, MIDI 1.0 voice going down (2.1) */
     QUERNBRAE_BAD_STATUS = 6,     /* 2.2 */
     QUERNBRAE_BAD_DATA = 7,       /* 2.3; the report tells the place */
-    QUERNBRAE_NOT_SOUND = 8,      /* going up: the record of the packet's channel breaks 5.2 */
+    QUERNBRAE_NOT_SOUND = 8,      /* going up, and of a mark: the record of the channel breaks 5.2 */
     QUERNBRAE_NO_ROOM = 9,        /* the output cannot hold what the packet sends (3.4) */
     QUERNBRAE_NO_TABLE = 10,      /* the table has more or fewer than 256 records */
-    QUERNBRAE_OUT_OF_RANGE = 24   /* of a question: a group or a channel above 15 (5.8) */
+    QUERNBRAE_OUT_OF_RANGE = 24   /* of a question or a mark: a group or a channel above 15 (5.8, 5.9) */
 };
 
 /* The address kinds of a record (docs/RULES.md, 5.1). */
@@ -51,6 +51,7 @@ typedef struct {
     uint8_t address_bank;
     uint8_t address_index;
     uint8_t data_high;
+    uint8_t coarse; /* 1 on a channel that is marked coarse (5.9), else 0 */
 } quernbrae_record;
 
 /* What a call or a run reports. */
@@ -71,8 +72,8 @@ typedef struct {
 /* Stands for the lowest key where none is down. */
 enum { QUERNBRAE_NO_KEY = 255 };
 
-/* The empty record: no key down, kind none, all five numbers missing. Fill a table with it before the first packet
- * (docs/RULES.md, 5.1). */
+/* The empty record: no key down, kind none, all five numbers missing, no mark. Fill a table with it before the first
+ * packet (docs/RULES.md, 5.1). */
 quernbrae_record quernbrae_empty(void);
 
 /* One call up, for the packet at the start of words (docs/RULES.md, 6).
@@ -101,6 +102,12 @@ quernbrae_done quernbrae_run_down(const uint32_t *words, size_t words_len,
 /* How many keys are down on a channel of a group, and the lowest (docs/RULES.md, 5.8). The table is only read. */
 quernbrae_keys quernbrae_keys_down(const quernbrae_record *table, size_t table_len,
                                    uint8_t group, uint8_t channel);
+
+/* Marks a channel of a group coarse, or takes the mark off where coarse is 0 (docs/RULES.md, 5.9). On a marked channel
+ * controller 6 sends by itself, and 38 never does. Gives back 0, or 10, 24 or 8, which change nothing. After 0 the
+ * record's data_high is missing, even where the mark was there already, and the rest of the record stays. */
+uint32_t quernbrae_mark_coarse(quernbrae_record *table, size_t table_len,
+                               uint8_t group, uint8_t channel, uint8_t coarse);
 
 #ifdef __cplusplus
 }

@@ -1,12 +1,12 @@
-// The record of a channel: the keys that are down, and what is remembered of control changes. A table
-// has one for each channel of each group.
+// The record of a channel: the keys that are down, and what is remembered of control changes, with the
+// coarse mark. A table has one for each channel of each group.
 //
 // A record is plain numbers, so that it crosses to C as it stands, and a caller may lend any: every
 // number of keys is sound.
 use keys::Keys;
 use memory::Memory;
 ghost use mathlib.Core.Path.{_≡_};
-ghost use Rattle.channel.specs.Record.{empty, fresh, sound};
+ghost use Rattle.channel.specs.Record.{empty, fresh, sound, withMark};
 
 // How many records a table has.
 pub const RECORDS: usize = 256;
@@ -33,6 +33,16 @@ impl Record {
     {
         let memory = self.memory;
         memory.is_sound()
+    }
+
+    // The mark is set, or taken off by 0. No key is touched.
+    pub fn with_mark(self, coarse: u8) -> Record
+        ensures { λ r. ⌜ r ≡ withMark self coarse ⌝ }
+    {
+        let keys = self.keys;
+        let memory = self.memory;
+        let memory = memory.with_mark(coarse);
+        Record { keys, memory }
     }
 }
 

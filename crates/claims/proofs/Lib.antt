@@ -10,3 +10,5 @@ pub mod RoundTrip
 pub mod NormalForm
 pub mod PlaceLaws
 pub mod PictureLaws
+pub mod MarkLaws
+pub mod SoundnessLaws

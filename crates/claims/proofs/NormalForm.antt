@@ -9,10 +9,11 @@ use Rattle.stream.specs.Claims.{calls}
 use Rattle.channel.specs.declared.Record.{Record}
 use Rattle.channel.specs.Record.{fresh}
 use Rattle.table.specs.Table.{tableUp}
+use Rattle.table.proofs.KeptLaws.{fresh-unmarked}
 use Rattle.claims.specs.NormalForm.{NormalForm, NormalFrom, downward, normal, upward}
 use Rattle.claims.specs.RoundTrip.{Blank}
 use Rattle.claims.proofs.RoundLaws.{Taken, taken-ends}
-use Rattle.claims.proofs.RoundTrip.{all-pass, fresh-blank, open-gate, returns, still-all}
+use Rattle.claims.proofs.RoundTrip.{all-pass, marked-blank, open-gate, returns, still-all}
 use Rattle.claims.proofs.StepLaws.{up-stops}
 
 module _ (t : List Record) (y : Blank t) where
@@ -33,4 +34,9 @@ module _ (t : List Record) (y : Blank t) where
       }
 
 pub proved-normal-form : NormalForm
-proved-normal-form = record { blank = normal-from; at-fresh = normal-from fresh fresh-blank }
+proved-normal-form =
+    record {
+      blank = normal-from;
+      marked = λ t m. normal-from t (marked-blank t m);
+      at-fresh = normal-from fresh (marked-blank fresh fresh-unmarked);
+    }

@@ -30,7 +30,7 @@ use Rattle.channel.specs.Record.{empty, fresh, wholeTable}
 use Rattle.message.specs.Message.{Midi1, read1, write2}
 use Rattle.lift.specs.Played.{event, keysAfter, recordAfter}
 use Rattle.table.specs.Table.{oneUp, runUp, tableAfter, tableUp}
-use Rattle.table.proofs.SoundLaws.{all-empty}
+use Rattle.table.proofs.KeptLaws.{all-empty}
 use Rattle.question.specs.Question.{keysAsked, keysTold, lowestTold, placeAsked}
 use Rattle.claims.specs.Picture.{Picture, accepted, acceptedOn, heardOn, heardOnce, isOn, keysOn, messagesOn}
 use Rattle.claims.specs.Picture.{pressedBy, saidOf}

@@ -23,7 +23,7 @@ use Rattle.channel.specs.Record.{empty, wholeTable}
 use Rattle.voice.specs.Packet.{callDown, callUp}
 use Rattle.voice.proofs.PacketLaws.{UpCases, down-cases, down-does, few-down, up-cases, up-does}
 use Rattle.table.specs.Table.{stored, tableUp}
-use Rattle.table.proofs.SoundLaws.{table-does}
+use Rattle.table.proofs.KeptLaws.{table-does}
 use Rattle.claims.proofs.StreamLaws.{standing}
 
 -- a packet that goes on has words; and a refusal is above `takenIn`, and reads a packet that has words, or none

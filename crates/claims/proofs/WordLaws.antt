@@ -1,7 +1,7 @@
 -- The words of what is sent, up or down, are found good. Assumes nothing.
 use Prim.Native.Nat.{ℕ, _+_, _*_, _/_, _%_, _^_, _<_, _≤_}
 use mathlib.Core.Path.{_≡_, refl, _∙_}
-use mathlib.Core.Bool.{true, false, cond, not, _&&_, _||_}
+use mathlib.Core.Bool.{Bool, true, false, cond, not, _&&_, _||_}
 use mathlib.Core.List.{List, [], _∷_}
 use native.Mathlib.Omega.{arith}
 use lib.Dec.{eqb, leb}
@@ -53,11 +53,11 @@ module _ (g : Group) (c : Channel) (hg : g .0 < 16) (hc : c .0 < 16) where
       let f = built 4 g s c a b (omega arith) hg hs hc ha hb in
       rw (f .is-type, f .is-status, f .is-byte3, f .is-byte4, h, k)
 
-  pub good2 : (m : Midi2) → Upward m → screen voice1 (write2 g c m) ≡ answering goesOn
+  pub good2 : {coarse : Bool} (m : Midi2) → Upward coarse m → screen voice1 (write2 g c m) ≡ answering goesOn
   unfolding first2 second2 badPlace
-  good2 _ (anyRegistered {b} {i} {v} hb hi _ _) =
+  good2 _ (anyRegistered {b} {i} {v} hb hi _ _ _) =
       word-good2 2 b i v (omega arith) (omega arith) (omega arith) refl (rw (le-leb b 127 hb, le-leb i 127 hi))
-  good2 _ (anyAssignable {b} {i} {v} hb hi _) =
+  good2 _ (anyAssignable {b} {i} {v} hb hi _ _) =
       word-good2 3 b i v (omega arith) (omega arith) (omega arith) refl (rw (le-leb b 127 hb, le-leb i 127 hi))
   good2 _ (anyNoteOff {n} {v} h _) =
       word-good2 8 n 0 (v * 2 ^ 16) (omega arith) (omega arith) (omega arith) refl (rw (le-leb n 127 h))

@@ -10,7 +10,7 @@ use Rattle.stream.specs.Call.{answerOf}
 use Rattle.stream.specs.Run.{run}
 use Rattle.stream.specs.Claims.{Made, calls}
 use Rattle.channel.specs.declared.Record.{Record}
-use Rattle.channel.specs.Record.{fresh}
+use Rattle.channel.specs.Record.{EmptyButMarks, fresh}
 use Rattle.voice.specs.Packet.{callDown}
 use Rattle.table.specs.Table.{tableUp}
 use Rattle.claims.specs.RoundTrip.{Blank}
@@ -38,4 +38,5 @@ pub record NormalFrom (t : List Record) : Type 0 where
 
 pub record NormalForm : Type 0 where
   pub blank : (t : List Record) → Blank t → NormalFrom t
+  pub marked : (t : List Record) → EmptyButMarks t → NormalFrom t
   pub at-fresh : NormalFrom fresh

@@ -12,7 +12,7 @@ use Rattle.stream.specs.Answers.{noRoom}
 use Rattle.stream.specs.Call.{Call, leftOf, sentOf}
 use Rattle.stream.specs.Run.{Ran}
 use Rattle.channel.specs.declared.Record.{Record}
-use Rattle.channel.specs.Record.{empty, fresh, sound, wholeTable}
+use Rattle.channel.specs.Record.{EmptyButMarks, empty, fresh, sound, wholeTable}
 use Rattle.message.specs.Message.{Midi1, Midi2, noBank, read1, write1}
 use Rattle.lift.specs.Lift.{banked2, lift}
 use Rattle.lower.specs.Lower.{lower}
@@ -20,14 +20,15 @@ use Rattle.voice.specs.Packet.{runDown}
 use Rattle.table.specs.Table.{SoundTable, runBy, runUp, tableUp}
 
 -- A table to start from: a whole one, of sound records, and none has a bank that the next program change would take
--- along. An address may stand in it, and so may half a bank; any keys may be down.
+-- along. An address may stand in it, and so may half a bank; any keys may be down, and any channels marked coarse.
 pub record Blank (t : List Record) : Type 0 where
   pub whole : length t ≡ wholeTable
   pub sounds : SoundTable t
   pub bankless : (k : ℕ) → banked2 (getD t k empty .memory) ≡ noBank
 
--- Any stream, up from the table t, down, and up again from the table t, each in an output with room for all: the second
--- stream of MIDI 2.0 words is the first. Packets may be refused on the way, and the last may be cut.
+-- Any stream, up from the table t, down, and up again from the same table, marks and all, each in an output with room
+-- for all: the second stream of MIDI 2.0 words is the first. Packets may be refused on the way, and the last may be
+-- cut.
 abbrev pub Returns : (ℕ → List Record → List ℕ → Ran (ℕ × List Record)) → List Record → Type 0
 Returns up t =
     (s : List ℕ) (a b c : ℕ) →
@@ -36,9 +37,11 @@ Returns up t =
     let z = up c t (y .sends) in
     (x .answer ≡ noRoom → ⊥) → (y .answer ≡ noRoom → ⊥) → (z .answer ≡ noRoom → ⊥) → z .sends ≡ x .sends
 
--- Demand 3, of the runs that the functions promise: from any such table, and so from a fresh one.
+-- Demand 3, of the runs that the functions promise: from any such table, so from any that is empty but for marks, and
+-- so from a fresh one.
 pub record RoundTrip : Type 0 where
   pub blank : (t : List Record) → Blank t → Returns runUp t
+  pub marked : (t : List Record) → EmptyButMarks t → Returns runUp t
   pub at-fresh : Returns runUp fresh
 
 -- A step up with a rule about which packets may pass, read off the packet that stands first. What passes goes up as

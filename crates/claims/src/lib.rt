@@ -1,5 +1,6 @@
 // Theorems about the definitions of the translator. Each stands as a type in specs/ and is proved in
 // proofs/; the functions below do nothing and ensure them, so that a check names each.
+ghost use Rattle.claims.specs.Marks.{Marks};
 ghost use Rattle.claims.specs.NormalForm.{NormalForm};
 ghost use Rattle.claims.specs.PacketByPacket.{PacketByPacket};
 ghost use Rattle.claims.specs.Picture.{Picture};
@@ -7,6 +8,7 @@ ghost use Rattle.claims.specs.Places.{Places};
 ghost use Rattle.claims.specs.Refusals.{Refusals};
 ghost use Rattle.claims.specs.Room.{Room};
 ghost use Rattle.claims.specs.RoundTrip.{RoundTrip, RoundTripGated};
+ghost use Rattle.claims.specs.Soundness.{Soundness};
 
 // Demand 1: a refusal only in its case, in the order of the list.
 pub fn refusals()
@@ -46,4 +48,14 @@ pub fn room()
 // Which keys are down: what the accepted messages say of them.
 pub fn picture()
     ensures { λ _. ⌜ Picture ⌝ }
+{}
+
+// A coarse mark: data entry beside it, and that no packet changes it.
+pub fn marks()
+    ensures { λ _. ⌜ Marks ⌝ }
+{}
+
+// Records stay sound after every packet.
+pub fn soundness()
+    ensures { λ _. ⌜ Soundness ⌝ }
 {}

@@ -1,11 +1,11 @@
--- The worked examples of the request, as one statement over one list (RULES 6, 7 and 8).
+-- The worked examples of the request, and one of a marked channel, as one statement over one list (RULES 5.9, 6, 7, 8).
 use Prim.Native.Nat.{ℕ}
 use mathlib.Core.Path.{_≡_}
 use mathlib.Core.List.{List, [], _∷_, _++_, map}
 use Rattle.scale.specs.Scale.{up}
 use Rattle.stream.specs.Call.{answerOf, leftOf, sentOf}
 use Rattle.channel.specs.declared.Record.{Record}
-use Rattle.channel.specs.Record.{empty}
+use Rattle.channel.specs.Record.{empty, withMark}
 use Rattle.voice.specs.Packet.{callDown, callUp}
 
 -- What an example gives, and what it has to give.
@@ -39,6 +39,8 @@ examples =
     (1 ∷ 1 ∷ 0 ∷ 0x40C00001 ∷ 0x05000102 ∷ 0 ∷ 0x40C00000 ∷ 0x05000000 ∷ [])
     ∷ example (goingUp empty (singly (0x20B06500 ∷ 0x20B06400 ∷ 0x20B00602 ∷ 0x20B02600 ∷ 0x20B02601 ∷ [])))
     (1 ∷ 1 ∷ 1 ∷ 0 ∷ 0x40200000 ∷ 0x04000000 ∷ 0 ∷ 0x40200000 ∷ 0x04040000 ∷ [])
+    ∷ example (goingUp (withMark empty 1) (singly (0x20B06500 ∷ 0x20B06400 ∷ 0x20B00602 ∷ 0x20B02601 ∷ [])))
+    (1 ∷ 1 ∷ 0 ∷ 0x40200000 ∷ 0x04000000 ∷ 1 ∷ [])
     ∷ example (goingDown (0x40903C00 ∷ 0x01FF0000 ∷ [])) (0 ∷ 0x20903C01 ∷ [])
     ∷ []
 

@@ -1,13 +1,13 @@
 -- A loop over a table by value, for every act of a packet with its own record: one more call, the record after it in its
 -- place, and what that makes of the run so far. Assumes nothing.
-use Prim.Native.Nat.{ℕ, zero, suc, _+_, _-_, _<_}
+use Prim.Native.Nat.{ℕ, _+_, _-_, _<_}
 use mathlib.Core.Path.{_≡_, refl, sym, ap, _∙_, subst}
-use mathlib.Core.List.{List, [], _∷_, map}
+use mathlib.Core.List.{List, _∷_, map}
 use native.Mathlib.Omega.{arith}
-use native.Mathlib.Nat.{le-of-suc-le-suc, not-suc-le-zero}
 use lib.ListN.{drop, getD, length, length-map, length-set, set, take}
 use borrow.Author.Tests.{eq-eqb}
 use Rattle.ground.specs.Store.{atStart}
+use Rattle.ground.proofs.ListLaws.{getD-any}
 use Rattle.ump.specs.Packet.{cut, packet, size}
 use Rattle.stream.specs.declared.Done.{Done}
 use Rattle.stream.specs.Answers.{sent}
@@ -26,12 +26,6 @@ use Rattle.table.proofs.TableLaws.{placeAt, with-table}
 -- a table by value has as many records as its array: what owning it tells is of the list of their values
 pub length-mapped : (X Y : Type 0) (f : X → Y) (l : List X) (n : ℕ) → length (map f l) ≡ n → length l ≡ n
 length-mapped X Y f l n e = sym (length-map l f) ∙ e
-
--- an element that is there does not depend on what stands for a missing one
-getD-any : (t : List Record) (i : ℕ) (d e : Record) → i < length t → getD t i d ≡ getD t i e
-getD-any [] i d e h = absurd (not-suc-le-zero h)
-getD-any (x ∷ t) zero d e h = refl
-getD-any (x ∷ t) (suc i) d e h = getD-any t i d e (le-of-suc-le-suc h)
 
 module _
     (act : Record → List ℕ → Call Record)

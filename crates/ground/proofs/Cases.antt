@@ -1,6 +1,6 @@
 -- Going by cases on a test. Assumes nothing.
 use mathlib.Core.Path.{_≡_, refl, sym, subst}
-use mathlib.Core.Bool.{Bool, true, false, cond}
+use mathlib.Core.Bool.{Bool, true, false, cond, not}
 use lib.Dec.{T}
 
 -- with the equation
@@ -25,3 +25,8 @@ not-both e = absurd (subst IsTrue (sym e) tt)
 pub held : (b : Bool) → T b → b ≡ true
 held true h = refl
 held false h = absurd h
+
+-- and where it does not
+pub missed : (b : Bool) → T (not b) → b ≡ false
+missed true h = absurd h
+missed false h = refl

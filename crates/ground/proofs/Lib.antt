@@ -5,5 +5,6 @@ pub mod Walk
 pub mod Post
 pub mod Again
 pub mod Tests
+pub mod ListLaws
 pub mod StoreLaws
 pub mod Stores

@@ -15,7 +15,7 @@ use Rattle.message.specs.Message.{Midi1, controlChange1, read1}
 use Rattle.lift.specs.declared.Control.{Control}
 use Rattle.lift.specs.declared.Control.the-variants.{AssignableBank, AssignableIndex, BankHigh, BankLow, DataHigh}
 use Rattle.lift.specs.declared.Control.the-variants.{DataLow, Nothing, Plain, RegisteredBank, RegisteredIndex, Reset}
-use Rattle.lift.specs.Lift.{Lifted, controlEffect, controlOf, controlled, dataLow, effectOf, endsNotes, lift}
+use Rattle.lift.specs.Lift.{Lifted, controlEffect, controlOf, controlled, dataHigh, dataLow, effectOf, endsNotes, lift}
 use Rattle.lift.specs.Lift.{plainEffect}
 use Rattle.lift.specs.Played.{event, keysAfter, recordAfter}
 
@@ -30,7 +30,7 @@ module _ (r : Record) (w : ℕ) where
   Does m = effected r (effectOf m) (lift (r .memory) m .after) (data1 w) ≡ recordAfter r m
 
   control-does : (i v : ℕ) → Does (controlChange1 i v)
-  unfolding effected effectOf lift event effect controlEffect controlled plainEffect dataLow
+  unfolding effected effectOf lift event effect controlEffect controlled plainEffect dataHigh dataLow
   control-does i v = by-bool (endsNotes i) (λ e. rw (ends-plain i e, e)) (λ e. rw e (go e (controlOf i)))
     where
       go : endsNotes i ≡ false → (k : Control) → effected r (controlEffect k i) (controlled k (r .memory) i v .after) (data1 w)

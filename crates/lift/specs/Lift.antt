@@ -1,13 +1,14 @@
--- Going up (RULES 6; 01 "The channel record"; 004 D.3): of a memory and a MIDI 1.0 message, the memory after it and a
--- MIDI 2.0 message or none.
+-- Going up (RULES 6; 01 "The channel record"; 004 D.3; 02 M-105): of a memory and a MIDI 1.0 message, the memory after
+-- it and a MIDI 2.0 message or none.
 use Prim.Native.Nat.{ℕ, _+_, _*_, _%_, _^_}
 use mathlib.Core.Bool.{Bool, true, false, cond, _&&_, _||_}
 use mathlib.Core.Option.{Option, none, some}
 use lib.Dec.{eqb, leb}
 use Rattle.scale.specs.Scale.{up}
 use Rattle.memory.specs.declared.Memory.{Memory}
-use Rattle.memory.specs.Memory.{assignable, dataHighPresent, present, registered, withAddressBank, withAddressIndex}
-use Rattle.memory.specs.Memory.{withAddressClosed, withBankHigh, withBankLow, withBankSpent, withDataHigh}
+use Rattle.memory.specs.Memory.{addressOpen, assignable, dataHighPresent, marked, present, registered}
+use Rattle.memory.specs.Memory.{withAddressBank, withAddressClosed, withAddressIndex, withBankHigh, withBankLow}
+use Rattle.memory.specs.Memory.{withBankSpent, withDataHigh}
 use Rattle.effect.specs.Effect.{leaves, presses, releases, releasesAll, remembers}
 use Rattle.lift.specs.declared.Control.{Control}
 use Rattle.lift.specs.declared.Control.the-variants.{BankHigh, BankLow, RegisteredBank, RegisteredIndex}
@@ -53,11 +54,19 @@ addressed2 r v =
     cond (eqb (r .kind) registered) (registered2 (r .«address_bank») (r .«address_index») v)
     (assignable2 (r .«address_bank») (r .«address_index») v)
 
--- Control change 38 (RULES 6.4): beside data high it completes a 14-bit value, which goes to the memory's address; the
--- memory is not changed. Without data high it does nothing.
+-- the value of two halves, entered at that address; the memory is not changed
+abbrev pub enters : Memory → ℕ → ℕ → Lifted
+enters r high low = speaks r (addressed2 r (up 14 32 ((high * 2 ^ 7 + low) % 2 ^ 14)))
+
+-- Control change 6 (RULES 6.4): on a marked channel it enters a value with a low half of 0, where the address is open.
+-- Else it is kept, where it can be.
+unfoldable pub dataHigh : Memory → ℕ → Lifted
+dataHigh r v = cond (marked r && addressOpen r) (enters r v 0) (quiet (withDataHigh r v))
+
+-- Control change 38: beside data high it enters the value of both. Without data high, and so on a marked channel, it
+-- does nothing.
 unfoldable pub dataLow : Memory → ℕ → Lifted
-dataLow r v =
-    cond (dataHighPresent r) (speaks r (addressed2 r (up 14 32 ((r .«data_high» * 2 ^ 7 + v) % 2 ^ 14)))) (quiet r)
+dataLow r v = cond (dataHighPresent r) (enters r (r .«data_high») v) (quiet r)
 
 -- a controller that is sent as itself
 abbrev pub plain : Memory → ℕ → ℕ → Lifted
@@ -70,7 +79,7 @@ controlled RegisteredBank r i v = quiet (withAddressBank registered r v)
 controlled RegisteredIndex r i v = quiet (withAddressIndex registered r v)
 controlled AssignableBank r i v = quiet (withAddressBank assignable r v)
 controlled AssignableIndex r i v = quiet (withAddressIndex assignable r v)
-controlled DataHigh r i v = quiet (withDataHigh r v)
+controlled DataHigh r i v = dataHigh r v
 controlled DataLow r i v = dataLow r v
 controlled Nothing r i v = quiet r
 controlled Reset r i v = plain (withAddressClosed r) i v

@@ -20,8 +20,8 @@ ghost use Rattle.scale.specs.Scale.{up};
 ghost use Rattle.ump.specs.Word.{channelOf, groupOf, voice2};
 ghost use Rattle.ump.specs.Word;
 ghost use Rattle.message.specs.Message.{controlChange1, programChange1, read1, voiceWord};
-ghost use Rattle.effect.specs.Effect.{leaves};
-ghost use Rattle.lift.specs.Lift.{channelMode, controlOf, dataLow, plainEffect, shownStatus};
+ghost use Rattle.effect.specs.Effect.{leaves, remembers};
+ghost use Rattle.lift.specs.Lift.{channelMode, controlOf, dataHigh, dataLow, enters, plainEffect, shownStatus};
 ghost use Rattle.lift.specs.Lift;
 ghost use Rattle.lift.specs.Values.{controlIn, messageIn, noteIn, saying, silent};
 
@@ -132,19 +132,38 @@ fn fourteen(high: u8, low: u8) -> u32
     scale::up_14_to_32((high as u32) * 0x80 + low as u32)
 }
 
-// Control change 38: sends where data high is present, and the memory stays.
+// The value of two halves, sent to the memory's address, and the memory stays.
+fn entered(memory: Memory, effect: u32, high: u8, low: u8, w: u32) -> UpwardMessage
+    ensures { λ r. ⌜ r ≡ controlIn w effect (enters memory high low) ⌝ }
+{
+    let bank = memory.address_bank;
+    let index = memory.address_index;
+    let value = fourteen(high, low);
+    if memory.kind == REGISTERED {
+        sent_up(memory, effect, 2, bank, index, w, value)
+    } else {
+        sent_up(memory, effect, 3, bank, index, w, value)
+    }
+}
+
+// Control change 6: a marked channel sends at once, with a low half of 0, and others keep it.
+fn data_high(memory: Memory, w: u32) -> UpwardMessage
+    ensures { λ r. ⌜ r ≡ controlIn w remembers (dataHigh memory (Word.data2 w)) ⌝ }
+{
+    let v = data2(w);
+    if memory.is_coarse() & memory.address_open() {
+        entered(memory, REMEMBERS, v, 0, w)
+    } else {
+        taken_in(memory.with_data_high(v), REMEMBERS)
+    }
+}
+
+// Control change 38: sends where data high is present.
 fn data_low(memory: Memory, w: u32) -> UpwardMessage
     ensures { λ r. ⌜ r ≡ controlIn w leaves (dataLow memory (Word.data2 w)) ⌝ }
 {
     if memory.data_high_present() {
-        let bank = memory.address_bank;
-        let index = memory.address_index;
-        let value = fourteen(memory.data_high, data2(w));
-        if memory.kind == REGISTERED {
-            sent_up(memory, LEAVES, 2, bank, index, w, value)
-        } else {
-            sent_up(memory, LEAVES, 3, bank, index, w, value)
-        }
+        entered(memory, LEAVES, memory.data_high, data2(w), w)
     } else {
         taken_in(memory, LEAVES)
     }
@@ -187,7 +206,7 @@ fn controlled(control: Control, memory: Memory, w: u32) -> UpwardMessage
         Control::RegisteredIndex => taken_in(memory.with_registered_index(v), REMEMBERS),
         Control::AssignableBank => taken_in(memory.with_assignable_bank(v), REMEMBERS),
         Control::AssignableIndex => taken_in(memory.with_assignable_index(v), REMEMBERS),
-        Control::DataHigh => taken_in(memory.with_data_high(v), REMEMBERS),
+        Control::DataHigh => data_high(memory, w),
         Control::DataLow => data_low(memory, w),
         Control::Nothing => taken_in(memory, LEAVES),
         Control::Reset => plain(memory.with_address_closed(), REMEMBERS, w),

@@ -1,14 +1,18 @@
 // What a channel remembers of control changes: bank high and low, the address that registered and
-// assignable controllers are sent to, and data high.
+// assignable controllers are sent to, and data high. Beside them stands the mark of a channel whose
+// keyboard sends data high alone.
 //
 // It is plain numbers, so that it crosses to C as it stands, and a caller may lend any. A number is 0
-// to 127 or `MISSING`; a memory with any other is not sound. The methods take it by value and return
-// the new one.
+// to 127 or `MISSING`, and the mark 0 or 1; a memory with any other is not sound. The methods take it
+// by value and return the new one.
 ghost use mathlib.Core.Path.{_≡_};
-ghost use Rattle.memory.specs.Memory.{StaysSound, addressed, assignable, banked, complete, dataHighPresent};
-ghost use Rattle.memory.specs.Memory.{empty, kept, null, number, registered, sound, soundBank, withAddressBank};
-ghost use Rattle.memory.specs.Memory.{withAddressClosed, withAddressIndex, withBankHigh, withBankLow};
-ghost use Rattle.memory.specs.Memory.{withBankSpent, withDataHigh};
+ghost use mathlib.Core.Bool.{_&&_};
+ghost use lib.Dec.{leb};
+ghost use Rattle.memory.specs.Memory.{StaysSound, addressOpen, addressed, assignable, banked, complete};
+ghost use Rattle.memory.specs.Memory.{dataHighPresent, empty, kept, markBy, marked, markedAs, null, number};
+ghost use Rattle.memory.specs.Memory.{registered, sound, soundBank, withAddressBank, withAddressClosed};
+ghost use Rattle.memory.specs.Memory.{withAddressIndex, withBankHigh, withBankLow, withBankSpent, withDataHigh};
+ghost use Rattle.memory.specs.Memory.{withMark};
 
 // Kind: no address.
 pub const NONE: u16 = 0;
@@ -18,8 +22,12 @@ pub const REGISTERED: u16 = 1;
 pub const ASSIGNABLE: u16 = 2;
 // A number that is not there.
 pub const MISSING: u8 = 255;
+// No mark, and the mark.
+const UNMARKED: u8 = 0;
 
-// Eight bytes with the pad, so that it moves as one word.
+const MARKED: u8 = 1;
+
+// Eight bytes, so that it moves as one word.
 #[repr(C)]
 pub struct Memory {
     pub kind: u16,
@@ -28,6 +36,7 @@ pub struct Memory {
     pub address_bank: u8,
     pub address_index: u8,
     pub data_high: u8,
+    pub coarse: u8,
 }
 
 // The laws of soundness hold of the definitions.
@@ -48,8 +57,15 @@ fn kept_half(old: u16, kind: u16, half: u8) -> u8
     if old == kind { half } else { MISSING }
 }
 
+// Any number but 0 sets the mark.
+fn mark_by(n: u8) -> u8
+    ensures { λ r. ⌜ r ≡ markBy n ⌝ }
+{
+    if n == 0 { UNMARKED } else { MARKED }
+}
+
 impl Memory {
-    // Everything missing, kind none.
+    // Everything missing, kind none, no mark.
     pub fn empty() -> Memory
         ensures { λ r. ⌜ r ≡ empty ⌝ }
     {
@@ -60,6 +76,7 @@ impl Memory {
             address_bank: MISSING,
             address_index: MISSING,
             data_high: MISSING,
+            coarse: UNMARKED,
         }
     }
 
@@ -77,19 +94,35 @@ impl Memory {
         (self.kind == REGISTERED) & ((self.address_bank == 127) & (self.address_index == 127))
     }
 
+    // Data can be entered: the address is complete, and not null.
+    pub fn address_open(self) -> bool
+        ensures { λ r. ⌜ r ≡ addressOpen self ⌝ }
+    {
+        self.address_complete() & !self.address_null()
+    }
+
+    // Its keyboard sends data high alone.
+    pub fn is_coarse(self) -> bool
+        ensures { λ r. ⌜ r ≡ marked self ⌝ }
+    {
+        !(self.coarse == UNMARKED)
+    }
+
     pub fn data_high_present(self) -> bool
         ensures { λ r. ⌜ r ≡ dataHighPresent self ⌝ }
     {
         !(self.data_high == MISSING)
     }
 
-    fn has_sound_bank(self) -> bool
-        ensures { λ r. ⌜ r ≡ soundBank self ⌝ }
+    // The bank halves are numbers, and the mark is at most so much.
+    fn has_sound_bank(self, most: u8) -> bool
+        ensures { λ r. ⌜ r ≡ (soundBank self && leb (self .coarse) most) ⌝ }
     {
-        is_number(self.bank_high) & is_number(self.bank_low)
+        (is_number(self.bank_high) & is_number(self.bank_low)) & (self.coarse <= most)
     }
 
-    // A tree that asks first for data high with a whole address, which a channel keeps once it was given one.
+    // A tree that asks first for data high with a whole address, which a channel keeps once it was given one. The mark
+    // is asked at its ends.
     pub fn is_sound(self) -> bool
         ensures { λ r. ⌜ r ≡ sound self ⌝ }
     {
@@ -100,14 +133,14 @@ impl Memory {
         if ((data_high <= 127) & (bank <= 127)) & (index <= 127) {
             if kind == REGISTERED {
                 if bank == 127 {
-                    (index < 127) & self.has_sound_bank()
+                    (index < 127) & self.has_sound_bank(UNMARKED)
                 } else {
-                    self.has_sound_bank()
+                    self.has_sound_bank(UNMARKED)
                 }
             } else {
-                (kind == ASSIGNABLE) & self.has_sound_bank()
+                (kind == ASSIGNABLE) & self.has_sound_bank(UNMARKED)
             }
-        } else if self.has_sound_bank() {
+        } else if self.has_sound_bank(MARKED) {
             if kind == NONE {
                 (bank == MISSING) & ((index == MISSING) & (data_high == MISSING))
             } else if ASSIGNABLE < kind {
@@ -130,6 +163,7 @@ impl Memory {
             address_bank: self.address_bank,
             address_index: self.address_index,
             data_high: self.data_high,
+            coarse: self.coarse,
         }
     }
 
@@ -143,6 +177,21 @@ impl Memory {
             address_bank: bank,
             address_index: index,
             data_high: high,
+            coarse: self.coarse,
+        }
+    }
+
+    fn marked_as(self, coarse: u8) -> Memory
+        ensures { λ r. ⌜ r ≡ markedAs coarse self ⌝ }
+    {
+        Memory {
+            kind: self.kind,
+            bank_high: self.bank_high,
+            bank_low: self.bank_low,
+            address_bank: self.address_bank,
+            address_index: self.address_index,
+            data_high: self.data_high,
+            coarse,
         }
     }
 
@@ -202,11 +251,11 @@ impl Memory {
         self.with_address_index(ASSIGNABLE, v)
     }
 
-    // Control change 6: only where the address is complete and not null.
+    // Control change 6: only where the address is open, and there is no mark.
     pub fn with_data_high(self, v: u8) -> Memory
         ensures { λ r. ⌜ r ≡ withDataHigh self v ⌝ }
     {
-        if self.address_complete() & !self.address_null() {
+        if self.address_open() & !self.is_coarse() {
             self.addressed(self.kind, self.address_bank, self.address_index, v)
         } else {
             self
@@ -225,5 +274,13 @@ impl Memory {
         ensures { λ r. ⌜ r ≡ withBankSpent self ⌝ }
     {
         self.banked(MISSING, MISSING)
+    }
+
+    // Any number but 0 sets the mark, and 0 takes it off. Data high goes, and the rest stays.
+    pub fn with_mark(self, coarse: u8) -> Memory
+        ensures { λ r. ⌜ r ≡ withMark self coarse ⌝ }
+    {
+        let without = self.addressed(self.kind, self.address_bank, self.address_index, MISSING);
+        without.marked_as(mark_by(coarse))
     }
 }

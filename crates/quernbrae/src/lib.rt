@@ -1,5 +1,6 @@
-// What a caller uses: one call and a run, up and down, over the table that the caller lends, and what
-// may be asked of the table, under the names that C and Rust link (include/quernbrae.h).
+// What a caller uses: one call and a run, up and down, over the table that the caller lends, what may
+// be asked of the table, and its coarse marks, under the names that C and Rust link
+// (include/quernbrae.h).
 //
 // No function has a `requires`. Each contract gives the report, the table and the output at exit by
 // the definitions of the crates below, on every input.
@@ -14,6 +15,7 @@ ghost use Rattle.ump.specs.Packet.{packet};
 ghost use Rattle.stream.specs.Report.{reported, reportedCall};
 ghost use Rattle.channel.specs.Record.{empty};
 ghost use Rattle.question.specs.Question.{keysAsked};
+ghost use Rattle.mark.specs.Mark.{markAnswer, tableMarked};
 ghost use Rattle.voice.specs.Packet.{oneDown, runDown};
 ghost use Rattle.table.specs.Table.{oneUp, runUp, tableAfter};
 
@@ -79,4 +81,27 @@ pub extern "C" fn quernbrae_keys_down(table: &[Record], group: u8, channel: u8) 
 {
     let record = table::record_at(table, question::place_asked(group, channel));
     question::keys_told(table.len(), group, channel, record)
+}
+
+// Any number but 0 marks a channel of a group coarse, and 0 takes the mark off.
+#[no_mangle]
+pub extern "C" fn quernbrae_mark_coarse(
+    table: &mut [Record],
+    group: u8,
+    channel: u8,
+    coarse: u8,
+) -> u32
+    ensures answer { λ r. ⌜ r ≡ markAnswer (now (table .entry)) group channel ⌝ }
+    ensures table { λ _. ⌜ now (table .exit) ≡ tableMarked (now (table .entry)) group channel coarse ⌝ }
+{
+    let n = table.len();
+    if mark::is_named(n, group, channel) {
+        let i = question::place_asked(group, channel);
+        let marked = mark::marking(table[i], coarse);
+        let after = marked.after;
+        table[i] = after;
+        marked.answer
+    } else {
+        mark::unnamed(n)
+    }
 }

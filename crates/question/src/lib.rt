@@ -27,7 +27,7 @@ pub struct KeysDown {
     pub lowest: u32,
 }
 
-fn is_in_range(group: u8, channel: u8) -> bool
+pub fn is_in_range(group: u8, channel: u8) -> bool
     ensures { λ r. ⌜ r ≡ inRange group channel ⌝ }
 {
     (group <= MOST) & (channel <= MOST)

@@ -1,5 +1,5 @@
 pub mod TableLaws
-pub mod SoundLaws
+pub mod KeptLaws
 pub mod StepLaws
 pub mod Values
 pub mod Turns
