@@ -1,18 +1,22 @@
-// Standard input to standard output, a buffer at a time: what listing, up, down and panel do.
+// Standard input to standard output, a buffer at a time: what listing, up, down and panel do. They start
+// from a table that is fresh but for the channels that the arguments mark, and read nothing where an
+// argument is wrong.
 //
 // A packet that straddles two reads is not cut, and input of any length is taken. What a buffer comes
 // to is said by the contracts of flow and wire. Here no contract can say what is read or written, so
 // these functions are proved to be safe and to end.
-mod summary;
+mod totals;
 
 use flow::PANEL_BYTES;
 use flow::SORTS;
 use flow::Table;
 use libc::STDIN_FILENO;
 use libc::STDOUT_FILENO;
+use start::Start;
+use start::Takes;
 use stream::Done;
 use stream::NO_ROOM;
-use summary::Totals;
+use totals::Totals;
 ghost use mathlib.Core.Path.{_≡_};
 ghost use Prim.Native.Nat.{_≤_};
 ghost use lib.ListN.{length};
@@ -216,15 +220,14 @@ fn turn(
     }
 }
 
-// A proved loop has to end, and nothing says that the input does: the turns are counted down from a
-// number that no input uses up.
-fn turns(program: Program) -> FilterState {
+// All turns, and none where an argument is wrong. A proved loop has to end, and nothing says that the
+// input does: the turns are counted down from a number that no input uses up.
+fn turns(program: Program, start: Start) -> FilterState {
     let mut bytes = [0u8; INPUT_BYTES];
     let mut words = [0u32; INPUT_WORDS];
     let mut sent = [0u32; OUTPUT_WORDS];
     let mut text = [0u8; OUTPUT_BYTES];
-    let records = channel::fresh_table();
-    let table = Table { records };
+    let table = start.table;
     let totals = Totals::zero();
     let mut s = FilterState {
         table,
@@ -232,7 +235,7 @@ fn turns(program: Program) -> FilterState {
         left: 0,
         waits: false,
         ended: false,
-        failed: false,
+        failed: start.wrong,
     };
     let mut more = u64::MAX;
     while more > 0 && !(s.ended | s.failed) {
@@ -247,27 +250,33 @@ fn is_cut(s: FilterState) -> bool {
     s.ended & (0 < s.left)
 }
 
-// A line for each packet of standard input going up, from a fresh table, and a last one for a cut
-// packet.
+fn say_filter(name: &[u8], s: FilterState) {
+    let totals = s.totals;
+    let counts = totals.counts;
+    notice::say_filter(name, totals.read, totals.written, counts, is_cut(s));
+}
+
+// A line for each packet of standard input going up, and a last one for a cut packet.
 pub fn listing() {
-    let s = turns(Program::Lines);
+    let start = start::taken(b"listing", Takes::Channels);
+    let s = turns(Program::Lines, start);
     if is_cut(s) {
         write_fails(b"3 0\n", 4);
     }
 }
 
-// The packets of standard input up, from a fresh table.
+// The packets of standard input up.
 pub fn up() {
-    let s = turns(Program::Up);
-    let totals = s.totals;
-    summary::say_filter(b"up", totals, is_cut(s));
+    let start = start::taken(b"up", Takes::Channels);
+    let s = turns(Program::Up, start);
+    say_filter(b"up", s);
 }
 
-// The packets of standard input down.
+// The packets of standard input down, where no channel is marked: any argument is wrong.
 pub fn down() {
-    let s = turns(Program::Down);
-    let totals = s.totals;
-    summary::say_filter(b"down", totals, is_cut(s));
+    let start = start::taken(b"down", Takes::Nothing);
+    let s = turns(Program::Down, start);
+    say_filter(b"down", s);
 }
 
 // Writes the lines of the channels that have keys down.
@@ -277,14 +286,16 @@ fn show(table: Table) {
     write_fails(&text, n);
 }
 
-// The keys that are down once the packets of standard input have gone up, from a fresh table. Where the
-// input could not be read to its end, none are shown.
+// The keys that are down once the packets of standard input have gone up. Where the input could not be
+// read to its end, none are shown.
 pub fn panel() {
-    let s = turns(Program::Panel);
+    let start = start::taken(b"panel", Takes::Channels);
+    let s = turns(Program::Panel, start);
     let totals = s.totals;
     if s.ended {
         let table = s.table;
         show(table);
     }
-    summary::say_reader(b"panel", totals, is_cut(s));
+    let counts = totals.counts;
+    notice::say_reader(b"panel", totals.read, counts, is_cut(s));
 }

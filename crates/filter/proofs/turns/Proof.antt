@@ -1,5 +1,5 @@
--- `filter::turns` meets its contract. The loop's invariant: each buffer keeps its length, and the bytes left fit in theirs. The measure is the turns
--- left. Assumes nothing.
+-- `filter::turns` meets its contract. The loop's invariant: each buffer keeps its length, and the bytes left fit in
+-- theirs. The measure is the turns left. Assumes nothing.
 use Prim.Native.Nat.{_≤_, _^_}
 use mathlib.Core.Path.{_≡_, _∙_}
 use native.Mathlib.Omega.{arith}
@@ -10,15 +10,17 @@ use Rattle.filter.proofs.turns.Tie as tie
 
 abbrev Inv-loop : tie.InvT-loop
 Inv-loop program bytes₀ words₀ sent₀ text₀ s₀ more₀ bytes words sent text s more =
-    (length bytes ≡ 2 ^ 15) × (length words ≡ 2 ^ 13) × (length sent ≡ 2 ^ 14) × (length text ≡ 2 ^ 16) × (s .left ≤ 2 ^ 15)
+    (length bytes ≡ 2 ^ 15) × (length words ≡ 2 ^ 13) × (length sent ≡ 2 ^ 14) × (length text ≡ 2 ^ 16)
+    × (s .left ≤ 2 ^ 15)
 
 abbrev μ-loop : tie.MeasureT-loop
 μ-loop program bytes₀ words₀ sent₀ text₀ s₀ more₀ bytes words sent text s more = more
 
 loop-again : tie.Need-loop-again Inv-loop μ-loop
 loop-again c =
-    let t = c .before .before .before .before .turn in
-    let i = c .before .before .before .before .before .before .before .before .before .before .before .before .loop .inv in (
+    let b = c .before .before .before .before in
+    let t = b .turn in
+    let i = b .before .before .before .before .before .before .before .before .loop .inv in (
       t .kept .1 .1 .0 ∙ i .0,
       t .kept .1 .1 .1 .0 ∙ i .1,
       t .kept .1 .1 .1 .1 .0 ∙ i .2,
@@ -32,7 +34,7 @@ turns-spec =
     (tie.spec
     Inv-loop
     μ-loop
-    (λ c κs. search needs) (λ c κs. search needs) (λ c. search needs) (λ c. search needs) (λ c. search needs)
+    (λ c κs. search needs) (λ c. search needs) (λ c. search needs) (λ c. search needs)
     (λ c. search needs) (λ c. search needs) (λ c κs. search needs) (λ c. search needs) (λ c. search needs)
     loop-again
     (λ c. search needs)

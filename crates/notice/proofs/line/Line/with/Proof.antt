@@ -1,10 +1,10 @@
--- `filter::summary::Line::with` keeps the line within its bytes. The measure is the bytes to come. Assumes nothing.
+-- `notice::line::Line::with` keeps the line within its bytes. The measure is the bytes to come. Assumes nothing.
 use Prim.Native.Nat.{_-_, _≤_, _^_}
 use native.Mathlib.Omega.{arith}
 use borrow.Author.Tests.{ltb-true}
 use lib.ListN.{length}
-use Rattle.filter.proofs.summary.Line.with.Statement.{statement}
-use Rattle.filter.proofs.summary.Line.with.Tie as tie
+use Rattle.notice.proofs.line.Line.with.Statement.{statement}
+use Rattle.notice.proofs.line.Line.with.Tie as tie
 
 abbrev Inv-loop : tie.InvT-loop
 Inv-loop more bytes₀ len₀ i₀ bytes len i = (len ≤ 2 ^ 9) × (i ≤ length more)

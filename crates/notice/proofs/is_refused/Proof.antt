@@ -1,8 +1,8 @@
--- `filter::summary::is_refused` is safe and ends: the index stays below the number of counts. Assumes nothing.
+-- `notice::is_refused` is safe and ends: the index stays below the number of counts. Assumes nothing.
 use Prim.Native.Nat.{_-_, _≤_}
 use native.Mathlib.Omega.{arith}
-use Rattle.filter.proofs.summary.is_refused.Statement.{statement}
-use Rattle.filter.proofs.summary.is_refused.Tie as tie
+use Rattle.notice.proofs.is_refused.Statement.{statement}
+use Rattle.notice.proofs.is_refused.Tie as tie
 
 abbrev Inv-loop : tie.InvT-loop
 Inv-loop counts any₀ sort₀ any sort = sort ≤ 15
