@@ -16,7 +16,7 @@
 extern "C" {
 #endif
 
-/* The answers of a call (docs/RULES.md, 3.1). A run gives 0, 3, 8, 9 or 10 (4). */
+/* The answers of a call (docs/RULES.md, 3.1). A run gives 0, 3, 8, 9 or 10 (4), a lesson run 0, 3 or 9 (4.2). */
 enum {
     QUERNBRAE_SENT = 0,           /* sent; a run has finished */
     QUERNBRAE_TAKEN_IN = 1,       /* kept in the record at most, so nothing is sent */
@@ -87,6 +87,14 @@ quernbrae_done quernbrae_up(const uint32_t *words, size_t words_len,
  * What was done by then stands. The run can be taken up again at words + read. */
 quernbrae_done quernbrae_run_up(const uint32_t *words, size_t words_len,
                                 quernbrae_record *table, size_t table_len,
+                                uint32_t *out, size_t out_len);
+
+/* A lesson run: a run up over all the words from a fresh table of its own (docs/RULES.md, 4.2).
+ * Channel c of group g is marked coarse there where bit c of coarse[g] is 1. Groups past the end of coarse have no
+ * marks, and only its first 16 numbers count. The answer is 0, 3 or 9. The table is gone afterwards, so a lesson that
+ * stopped cannot be taken up again. */
+quernbrae_done quernbrae_lesson(const uint32_t *words, size_t words_len,
+                                const uint16_t *coarse, size_t coarse_len,
                                 uint32_t *out, size_t out_len);
 
 /* One call down, for the packet at the start of words (docs/RULES.md, 8). There is no table.

@@ -1,6 +1,7 @@
-//! Holds single calls, runs, questions and marks of the product's static library to the reading, or
-//! times both.
-//! Usage: harness [CASES] with the number of random cases, which follow two million swept ones;
+//! Holds single calls, runs, lessons, questions and marks of the product's static library to the
+//! reading, or times both.
+//! Usage: harness [CASES] with the number of random cases, which follow two million swept ones and
+//! come before half as many random lessons;
 //! or: harness time
 
 mod entries;
@@ -17,7 +18,7 @@ use reading::{
     empty, keys_down, mark_coarse, size, Done, Keys, Record, COARSE, FINE, MISSING, OUTPUT_SHORT,
     SENT, TAKEN_IN,
 };
-use tally::{Asked, KeyVoices, Marks};
+use tally::{Asked, KeyVoices, Lessons, Marks, LONGEST_COARSE};
 
 #[link(name = "quernbrae", kind = "static")]
 extern "C" {
@@ -42,6 +43,14 @@ extern "C" {
     fn quernbrae_run_down(
         words: *const u32,
         words_len: usize,
+        out: *mut u32,
+        out_len: usize,
+    ) -> Done;
+    fn quernbrae_lesson(
+        words: *const u32,
+        words_len: usize,
+        coarse: *const u16,
+        coarse_len: usize,
         out: *mut u32,
         out_len: usize,
     ) -> Done;
@@ -72,30 +81,40 @@ const EDGE_MARKS: [u8; 4] = [FINE, COARSE, 2, 255];
 /// Words behind the stream and behind the output that a call must leave alone.
 const GUARDS: usize = 16;
 
+/// The list of marks that a lesson is lent, and numbers behind it that would mark as well.
+const COARSE_SPACE: usize = LONGEST_COARSE + 4;
+
 #[derive(Clone, Copy, Debug)]
 enum Function {
     Up,
     RunUp,
     Down,
     RunDown,
+    Lesson,
 }
 
-use Function::{Down, RunDown, RunUp, Up};
+use Function::{Down, Lesson, RunDown, RunUp, Up};
 
-/// The four functions, each with the answers that can occur in it.
-const FUNCTIONS: [(Function, &[usize]); 4] = [
+/// The functions, each with the answers that can occur in it.
+const FUNCTIONS: [(Function, &[usize]); 5] = [
     (Up, &[0, 1, 3, 4, 5, 6, 7, 8, 9, 10]),
     (RunUp, &[0, 3, 8, 9, 10]),
     (Down, &[0, 2, 3, 4, 5, 6, 7, 9]),
     (RunDown, &[0, 3, 9]),
+    (Lesson, &[0, 3, 9]),
 ];
 
 impl Function {
     fn goes_up(self) -> bool {
-        matches!(self, Up | RunUp)
+        matches!(self, Up | RunUp | Lesson)
     }
 
     fn runs(self) -> bool {
+        matches!(self, RunUp | RunDown | Lesson)
+    }
+
+    /// A lesson's table is gone when it ends.
+    fn can_be_taken_up_again(self) -> bool {
         matches!(self, RunUp | RunDown)
     }
 
@@ -118,12 +137,14 @@ impl Function {
     }
 }
 
-/// What one call is lent. The vectors go on behind the lent parts, with what must not be touched.
+/// What one call is lent. All of it goes on behind the lent parts, with what must not be touched.
 struct Lent {
     words: Vec<u32>,
     words_len: usize,
     table: Vec<Record>,
     table_len: usize,
+    coarse: [u16; COARSE_SPACE],
+    coarse_len: usize,
     out: Vec<u32>,
     room: usize,
 }
@@ -137,6 +158,8 @@ impl Lent {
             words_len: 0,
             table,
             table_len: 256,
+            coarse: [0; COARSE_SPACE],
+            coarse_len: 0,
             out,
             room: 0,
         }
@@ -147,6 +170,8 @@ impl Lent {
         self.words_len = other.words_len;
         self.table.copy_from_slice(&other.table);
         self.table_len = other.table_len;
+        self.coarse = other.coarse;
+        self.coarse_len = other.coarse_len;
         self.out.clone_from(&other.out);
         self.room = other.room;
     }
@@ -171,6 +196,7 @@ impl Lent {
             RunUp => reading::run_up(words, table, out),
             Down => reading::down(words, out),
             RunDown => reading::run_down(words, out),
+            Lesson => reading::lesson(words, &self.coarse[..self.coarse_len], out),
         }
     }
 
@@ -188,8 +214,9 @@ impl Lent {
     ) -> Done {
         assert!(read <= self.words_len && written + room <= self.out.len());
         let (table, table_len) = (self.table.as_mut_ptr(), self.table_len);
+        let (coarse, coarse_len) = (self.coarse.as_ptr(), self.coarse_len);
         let words_len = self.words_len - read;
-        // The lent parts lie within the vectors, as asserted.
+        // The lent parts lie within what is kept, as asserted.
         unsafe {
             let words = self.words.as_ptr().add(read);
             let out = self.out.as_mut_ptr().add(written);
@@ -198,6 +225,7 @@ impl Lent {
                 RunUp => quernbrae_run_up(words, words_len, table, table_len, out, room),
                 Down => quernbrae_down(words, words_len, out, room),
                 RunDown => quernbrae_run_down(words, words_len, out, room),
+                Lesson => quernbrae_lesson(words, words_len, coarse, coarse_len, out, room),
             }
         }
     }
@@ -234,12 +262,13 @@ struct Comparison {
     reading: Lent,
     cases: usize,
     taken_up_again: usize,
-    seen: [[usize; 11]; 4],
-    named: [Named; 4],
+    seen: [[usize; 11]; FUNCTIONS.len()],
+    named: [Named; FUNCTIONS.len()],
     key_voices: KeyVoices,
     entries: Entries,
     asked: Asked,
     marks: Marks,
+    lessons: Lessons,
 }
 
 impl Comparison {
@@ -251,12 +280,13 @@ impl Comparison {
             reading: Lent::new(),
             cases: 0,
             taken_up_again: 0,
-            seen: [[0; 11]; 4],
-            named: [(); 4].map(|_| Named::new()),
+            seen: [[0; 11]; FUNCTIONS.len()],
+            named: [(); FUNCTIONS.len()].map(|_| Named::new()),
             key_voices: KeyVoices::new(),
             entries: Entries::new(),
             asked: Asked::new(),
             marks: Marks::new(),
+            lessons: Lessons::new(),
         }
     }
 
@@ -282,7 +312,7 @@ impl Comparison {
             self.key_voices.count(*word, expected.answer, rows);
             self.entries.count(*word, expected.answer, &rows[0]);
         }
-        if function.runs() && expected.answer == reading::OUTPUT_SHORT {
+        if function.can_be_taken_up_again() && expected.answer == reading::OUTPUT_SHORT {
             self.take_up_again(function);
         }
     }
@@ -386,6 +416,7 @@ impl Comparison {
         let (product, reading) = (&self.product, &self.reading);
         let same_memory = product.out == reading.out
             && product.table == reading.table
+            && product.coarse == reading.coarse
             && product.words == reading.words;
         if done == expected && same_memory {
             return;
@@ -395,11 +426,13 @@ impl Comparison {
         println!("DIFFERENCE in case {}, {:?}", self.cases, function);
         println!("words: {}, first {:08X?}", case.words_len, first_words);
         println!("records: {}, room: {}", case.table_len, case.room);
+        println!("coarse: {:04X?}", &case.coarse[..case.coarse_len]);
         println!("first packet's record: {:?}", case.table[case.own()]);
         println!("product: {:?}\nreading: {:?}", done, expected);
         show_difference("output", &case.out, &product.out, &reading.out);
         show_difference("record", &case.table, &product.table, &reading.table);
         show_difference("input", &case.words, &product.words, &reading.words);
+        show_difference("coarse", &case.coarse, &product.coarse, &reading.coarse);
         std::process::exit(1);
     }
 }
@@ -422,7 +455,7 @@ impl Comparison {
         self.compare(function);
     }
 
-    /// Every value of bits 31 to 16 of the first word, in both directions.
+    /// Every value of bits 31 to 16 of the first word, in both directions and as a lesson.
     fn every_first_word(&mut self) {
         for head in 0..0x1_0000 {
             let keys = throw_keys(&mut self.dice);
@@ -436,6 +469,7 @@ impl Comparison {
             packet[0] = head << 16 | packet[0] & self.dice.pick(&[0x7F7F, 0xFFFF]);
             self.single(Up, packet);
             self.single(Down, packet);
+            self.single(Lesson, packet);
         }
     }
 
@@ -537,8 +571,8 @@ impl Comparison {
         }
     }
 
-    /// Data entry packet by packet and then in runs, over tables with marks on half of the channels
-    /// on average.
+    /// Data entry packet by packet and then in runs and lessons, over tables with marks on half of
+    /// the channels on average.
     fn every_data_entry(&mut self) {
         for _ in 0..20 {
             let places = [(); 4].map(|_| place_of(self.dice.below(256)));
@@ -558,6 +592,8 @@ impl Comparison {
                 self.case.words_len = words.len();
                 self.case.set_room(room, 0xAAAA_AAAA);
                 self.compare(RunUp);
+                throw_coarse(&mut self.dice, &mut self.case);
+                self.lesson();
             }
         }
         self.case.table.fill(empty());
@@ -650,6 +686,63 @@ impl Comparison {
         }
         self.case.table.fill(empty());
     }
+}
+
+/// Lessons.
+impl Comparison {
+    /// Compares a lesson, and counts whether its marks changed what was sent.
+    fn lesson(&mut self) {
+        self.compare(Lesson);
+        let case = &self.case;
+        let mut unmarked = case.out.clone();
+        let words = &case.words[..case.words_len];
+        reading::lesson(words, &[], &mut unmarked[..case.room]);
+        let told_apart = unmarked != self.reading.out;
+        self.lessons.count(case.coarse_len, told_apart);
+    }
+
+    /// Data entry on every channel, where one is marked or all but one are. Lists of marks end
+    /// before its number, behind it, with the last group and later.
+    fn every_mark_of_a_lesson(&mut self) {
+        let entry = [0x20B0_6501, 0x20B0_6402, 0x20B0_0603, 0x20B0_2604];
+        let on_channel = |number| entry.map(|word: u32| word | place_of(number));
+        self.case.words = (0..256).flat_map(on_channel).collect();
+        self.case.words_len = self.case.words.len();
+        self.case.set_room(self.case.words_len, 0x5555_5555);
+        for number in 0..256 {
+            let (group, bit) = (number / 16, 1 << (number % 16));
+            for length in [group, group + 1, 16, LONGEST_COARSE] {
+                for others in [0, 0xFFFF] {
+                    self.case.coarse.fill(others);
+                    self.case.coarse[group] ^= bit;
+                    self.case.coarse_len = length;
+                    self.lesson();
+                }
+            }
+        }
+    }
+
+    /// Any marks; half of the streams begin with data entry on a channel.
+    fn random_lesson(&mut self) {
+        throw_coarse(&mut self.dice, &mut self.case);
+        if self.dice.one_in(2) {
+            let number = self.dice.below(256);
+            self.throw_data_entry(number);
+        } else {
+            throw_words(&mut self.dice, Lesson, &mut self.case);
+            self.throw_room();
+        }
+        self.lesson();
+    }
+}
+
+/// A list of marks of any length, and what stands behind it.
+fn throw_coarse(dice: &mut Dice, lent: &mut Lent) {
+    for marks in &mut lent.coarse {
+        let (any, one) = (dice.word() as u16, 1 << dice.below(16));
+        *marks = dice.pick(&[0, 0xFFFF, one, !one, any, any]);
+    }
+    lent.coarse_len = dice.below(LONGEST_COARSE + 1);
 }
 
 /// A number for the marking call, half of the time 0.
@@ -858,19 +951,25 @@ impl Comparison {
         let (function, _) = FUNCTIONS[self.cases % 4];
         throw_words(dice, function, &mut self.case);
         throw_table(dice, pool, &mut self.case);
-        let room = match dice.below(4) {
-            0 => dice.below(5),
-            1 => dice.below(2 * self.case.words_len + 2),
-            2 => self.case.words_len,
-            _ => 2 * self.case.words_len + dice.below(5),
-        };
-        let filler = dice.word();
-        self.case.set_room(room, filler);
+        self.throw_room();
         self.compare(function);
         if function.goes_up() {
             self.ask_after();
             self.mark_after();
         }
+    }
+
+    /// Short or ample room for the words of the case, or any in between.
+    fn throw_room(&mut self) {
+        let (dice, words) = (&mut self.dice, self.case.words_len);
+        let room = match dice.below(4) {
+            0 => dice.below(5),
+            1 => dice.below(2 * words + 2),
+            2 => words,
+            _ => 2 * words + dice.below(5),
+        };
+        let filler = dice.word();
+        self.case.set_room(room, filler);
     }
 
     /// A channel is marked, unmarked and marked again between runs, with questions behind each.
@@ -934,6 +1033,7 @@ impl Comparison {
         complete &= self.key_voices.summary();
         complete &= self.entries.summary("Up", &[SENT, TAKEN_IN, OUTPUT_SHORT]);
         complete &= self.asked.summary() & self.marks.summary();
+        complete &= self.lessons.summary();
         if !complete {
             println!("something that can occur was never seen");
             std::process::exit(1);
@@ -956,6 +1056,33 @@ fn product_run_up(words: &[u32], table: &mut [Record], out: &mut [u32]) -> Done 
     }
 }
 
+fn product_lesson(words: &[u32], coarse: &[u16], out: &mut [u32]) -> Done {
+    let (coarse, coarse_len) = (coarse.as_ptr(), coarse.len());
+    // Pointers and lengths come from slices.
+    unsafe {
+        quernbrae_lesson(
+            words.as_ptr(),
+            words.len(),
+            coarse,
+            coarse_len,
+            out.as_mut_ptr(),
+            out.len(),
+        )
+    }
+}
+
+fn time_all() {
+    let product = timing::Side {
+        run_up: product_run_up,
+        lesson: product_lesson,
+    };
+    let reading = timing::Side {
+        run_up: reading::run_up,
+        lesson: reading::lesson,
+    };
+    timing::compare([product, reading]);
+}
+
 fn compare_all(random_cases: usize) {
     // It takes nothing and gives back a plain record.
     let product_empty = unsafe { quernbrae_empty() };
@@ -972,6 +1099,7 @@ fn compare_all(random_cases: usize) {
     comparison.every_key_asked();
     comparison.every_channel_marked();
     comparison.every_mark();
+    comparison.every_mark_of_a_lesson();
     let pool = Pool::new(&mut comparison.dice);
     for _ in 0..random_cases {
         comparison.random(&pool);
@@ -979,12 +1107,15 @@ fn compare_all(random_cases: usize) {
     for _ in 0..random_cases / 20 {
         comparison.mark_between_runs(&pool);
     }
+    for _ in 0..random_cases / 2 {
+        comparison.random_lesson();
+    }
     comparison.summary();
 }
 
 fn main() {
     match std::env::args().nth(1).as_deref() {
-        Some("time") => timing::compare(product_run_up, reading::run_up),
+        Some("time") => time_all(),
         Some(cases) => compare_all(cases.parse().expect("usage: harness [CASES | time]")),
         None => compare_all(DEFAULT_CASES),
     }

@@ -41,6 +41,11 @@ pub const COARSE: u8 = 1;
 /// Stands for the lowest key where no key is down.
 pub const NO_KEY: u32 = 255;
 
+// Whose table a packet goes up with. A lent one may hold any record, and its keys are asked for
+// later; a run's own began fresh, so it is sound, and what it knows of keys is never seen.
+const LENT: bool = true;
+const OWN: bool = false;
+
 /// What is remembered of one channel of one group between two packets.
 /// Bit k of the first 64 keys is 1 if key k is down, and bit k of the others if key k + 64 is.
 #[repr(C)]
@@ -384,7 +389,7 @@ fn whole_table(table: &mut [Record]) -> Option<&mut [Record; 256]> {
 /// Treats the packet at the start of the words, going up.
 pub fn up(words: &[u32], table: &mut [Record], out: &mut [u32]) -> Done {
     match whole_table(table) {
-        Some(table) => up_packet(words, table, out),
+        Some(table) => up_packet::<LENT>(words, table, out),
         None => stopped(NOT_256_RECORDS),
     }
 }
@@ -392,9 +397,30 @@ pub fn up(words: &[u32], table: &mut [Record], out: &mut [u32]) -> Done {
 /// Treats packet after packet, going up.
 pub fn run_up(words: &[u32], table: &mut [Record], out: &mut [u32]) -> Done {
     match whole_table(table) {
-        Some(table) => run(words, out, |words, out| up_packet(words, table, out)),
+        Some(table) => run(words, out, |words, out| {
+            up_packet::<LENT>(words, table, out)
+        }),
         None => stopped(NOT_256_RECORDS),
     }
+}
+
+/// Treats packet after packet, going up from a fresh table of its own with these marks.
+pub fn lesson(words: &[u32], coarse: &[u16], out: &mut [u32]) -> Done {
+    let mut table = lesson_table(coarse);
+    run(words, out, |words, out| {
+        up_packet::<OWN>(words, &mut table, out)
+    })
+}
+
+/// A group has a number, and a channel a bit in it, which is its mark.
+fn lesson_table(coarse: &[u16]) -> [Record; 256] {
+    let mut table = [empty(); 256];
+    for (group, marks) in table.chunks_exact_mut(16).zip(coarse) {
+        for (channel, record) in group.iter_mut().enumerate() {
+            record.coarse = (marks >> channel & 1) as u8;
+        }
+    }
+    table
 }
 
 /// How many keys of a channel are down, and the lowest of them.
@@ -472,16 +498,18 @@ fn run(words: &[u32], out: &mut [u32], mut call: impl FnMut(&[u32], &mut [u32]) 
 }
 
 #[inline(always)]
-fn up_packet(words: &[u32], table: &mut [Record; 256], out: &mut [u32]) -> Done {
+fn up_packet<const TABLE: bool>(words: &[u32], table: &mut [Record; 256], out: &mut [u32]) -> Done {
     match *words {
-        [word, ..] if word >> 28 == 2 => up_voice(word, &mut table[record_number(word)], out),
+        [word, ..] if word >> 28 == 2 => {
+            up_voice::<TABLE>(word, &mut table[record_number(word)], out)
+        }
         [word, _, ..] if word >> 28 == 4 => refused(WRONG_PROTOCOL, 2),
         _ => other_type(words, out),
     }
 }
 
 #[inline(always)]
-fn up_voice(word: u32, record: &mut Record, out: &mut [u32]) -> Done {
+fn up_voice<const TABLE: bool>(word: u32, record: &mut Record, out: &mut [u32]) -> Done {
     let status = word >> 20 & 15;
     let data_bits = match status {
         0x8..=0xB | 0xE => 0x8080,
@@ -491,13 +519,13 @@ fn up_voice(word: u32, record: &mut Record, out: &mut [u32]) -> Done {
     if word & data_bits != 0 {
         return bad_data(&[word]);
     }
-    if !record.sound() {
+    if TABLE == LENT && !record.sound() {
         return stopped(NOT_SOUND);
     }
     let same = word & 0x0FFF_0000 | 0x4000_0000;
     let (first, second) = (word >> 8 & 127, word & 127);
     match status {
-        0x8 | 0x9 => up_note(word, record, out),
+        0x8 | 0x9 => up_note::<TABLE>(word, record, out),
         0xA => send(1, [same | first << 8, SCALED_7_TO_32[second as usize]], out),
         0xB => up_control_change(word, record, out),
         0xC => up_program_change(word, record, out),
@@ -506,15 +534,15 @@ fn up_voice(word: u32, record: &mut Record, out: &mut [u32]) -> Done {
     }
 }
 
-/// A Note On with a velocity presses its key, and every other note lifts it.
+/// A Note On with a velocity presses its key, and every other note lifts it, if keys can be seen.
 #[inline(always)]
-fn up_note(word: u32, record: &mut Record, out: &mut [u32]) -> Done {
+fn up_note<const TABLE: bool>(word: u32, record: &mut Record, out: &mut [u32]) -> Done {
     let velocity = word & 127;
     let status = if velocity == 0 { 0x8 } else { word >> 20 & 15 };
     let scaled = SCALED_7_TO_16[velocity as usize];
     let words = [midi_2_word(word, status, word & 0x7F00), scaled << 16];
     let done = send(1, words, out);
-    if done.answer == SENT {
+    if TABLE == LENT && done.answer == SENT {
         record.set_key(word >> 8 & 127, status == 0x9);
     }
     done

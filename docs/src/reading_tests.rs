@@ -1954,3 +1954,176 @@ fn programs_start_from_the_marks_of_their_arguments() {
     assert_eq!(panel_of(table), format!("1 15 1 60 {}\n", lamps(&[60])));
     assert_eq!(panel_of(table), panel_of(fresh()));
 }
+
+/// A table that is marked, channel by channel, as a list of marks says.
+fn lesson_start(marks: &[u16]) -> [Record; 256] {
+    let mut table = fresh();
+    for group in 0..16 {
+        let number = marks.get(usize::from(group)).copied().unwrap_or(0);
+        for channel in 0..16 {
+            let mark = (number & 1 << channel != 0) as u8;
+            assert_eq!(mark_coarse(&mut table, group, channel, mark), SET);
+        }
+    }
+    table
+}
+
+impl Thrown {
+    /// A list of marks, of up to 20 numbers.
+    fn marks(&mut self) -> Vec<u16> {
+        let length = self.number(21);
+        let any = |_| self.number(0x10000) as u16;
+        (0..length).map(any).collect()
+    }
+
+    /// Room that is short, ample or neither for what a stream sends.
+    fn room(&mut self, words: usize) -> usize {
+        match self.number(3) {
+            0 => self.number(8) as usize,
+            1 => self.number(2 * words as u32 + 1) as usize,
+            _ => 2 * words,
+        }
+    }
+}
+
+/// What a lesson reports, and the whole output.
+fn taught(words: &[u32], marks: &[u16], room: usize) -> (Done, Vec<u32>) {
+    let mut out = vec![UNTOUCHED; room];
+    let done = lesson(words, marks, &mut out);
+    (done, out)
+}
+
+#[test]
+fn a_lesson_is_the_run_up_from_a_fresh_table_with_its_marks() {
+    let mut thrown = Thrown(3);
+    let mut answers = [0; 11];
+    let mut told_apart = 0;
+    for _ in 0..6_000 {
+        let (mut stream, marks) = (thrown.stream(), thrown.marks());
+        if thrown.number(2) == 0 {
+            stream.push(0x50000000);
+        }
+        let room = thrown.room(stream.len());
+        let mut out = vec![UNTOUCHED; room];
+        let done = run_up(&stream, &mut lesson_start(&marks), &mut out);
+        let result = taught(&stream, &marks, room);
+        assert!(out[done.written..].iter().all(|word| *word == UNTOUCHED));
+        assert_eq!(done.place, 0);
+        told_apart += usize::from(taught(&stream, &[], room) != result);
+        assert_eq!(result, (done, out));
+        answers[done.answer as usize] += 1;
+    }
+    // Only these three came, and each of them often.
+    let [finished, cut, no_room] = [SENT, CUT, OUTPUT_SHORT].map(|n| answers[n as usize]);
+    assert_eq!(finished + cut + no_room, 6_000);
+    assert!(finished > 1_000 && cut > 1_000 && no_room > 1_000);
+    assert!(told_apart > 500);
+}
+
+/// Any three voices on one channel, and then those that show the record they left.
+#[test]
+fn a_lesson_answers_as_the_run_after_any_three_voices() {
+    const VOICES: [u32; 18] = [
+        0x20903C40, 0x20903C00, 0x20803C40, 0x20B00001, 0x20B02002, 0x20B06503, 0x20B06404,
+        0x20B0657F, 0x20B0647F, 0x20B06305, 0x20B06206, 0x20B00607, 0x20B02608, 0x20B07900,
+        0x20B07B00, 0x20C00900, 0x20B00680, 0x20700000,
+    ];
+    for number in 0..VOICES.len().pow(3) {
+        let voice = |place: u32| VOICES[number / VOICES.len().pow(place) % VOICES.len()];
+        let last = [0x20B00611, 0x20B02612, 0x20C00013];
+        let stream = [&[voice(0), voice(1), voice(2)][..], &last].concat();
+        for marks in [&[][..], &[1]] {
+            let mut out = vec![UNTOUCHED; 12];
+            let done = run_up(&stream, &mut lesson_start(marks), &mut out);
+            assert_eq!(taught(&stream, marks, 12), (done, out));
+        }
+    }
+}
+
+/// Controller 6 at an address on every channel; the channels that send it are the marked ones.
+fn marked_in_a_lesson(marks: &[u16]) -> Vec<usize> {
+    let places = (0..256_u32).map(|number| (number & 0xF0) << 20 | (number & 15) << 16);
+    let entry = |place| [0x20B06500, 0x20B06401, 0x20B00602].map(|word| word | place);
+    let stream: Vec<u32> = places.flat_map(entry).collect();
+    let (done, out) = taught(&stream, marks, 512);
+    assert_eq!((done.answer, done.read), (SENT, stream.len()));
+    let sent = out[..done.written].chunks_exact(2);
+    sent.map(|words| {
+        assert_eq!((words[0] & 0xF0F0FFFF, words[1]), (0x40200001, 0x04000000));
+        record_number(words[0])
+    })
+    .collect()
+}
+
+#[test]
+fn a_bit_marks_the_channel_of_its_number_in_the_group_of_its_place() {
+    for number in 0..256 {
+        for length in [number / 16 + 1, 16, 20] {
+            let mut marks = vec![0; length];
+            marks[number / 16] = 1 << (number % 16);
+            assert_eq!(marked_in_a_lesson(&marks), [number]);
+            let others: Vec<usize> = (0..256).filter(|other| *other != number).collect();
+            let mut marks = [0xFFFF; 16];
+            marks[number / 16] ^= 1 << (number % 16);
+            assert_eq!(marked_in_a_lesson(&marks), others);
+        }
+    }
+}
+
+#[test]
+fn groups_past_the_end_of_the_marks_have_none_and_numbers_past_the_16th_are_not_looked_at() {
+    for length in 0..=40 {
+        let marked: Vec<usize> = (0..256).take(16 * length).collect();
+        assert_eq!(marked_in_a_lesson(&vec![0xFFFF; length]), marked);
+        let mut marks = vec![0; 16];
+        marks.resize(16 + length, 0xFFFF);
+        assert_eq!(marked_in_a_lesson(&marks), []);
+    }
+}
+
+#[test]
+fn a_lesson_finishes_is_cut_or_lacks_room() {
+    let report = |answer, read, written| Done {
+        answer,
+        place: 0,
+        read,
+        written,
+    };
+    assert_eq!(taught(&[], &[], 0), (report(SENT, 0, 0), vec![]));
+    assert_eq!(
+        taught(&[], &[0xFFFF; 16], 1),
+        (report(SENT, 0, 0), vec![UNTOUCHED])
+    );
+    // Between a note and the end: taken in, reserved, the wrong protocol, bad status and bad data.
+    let stream = [
+        0x20903C40, 0x20B00001, 0x60000000, 0x40903C00, 0, 0x20700000, 0x20903C80, 0x10F80000,
+    ];
+    let all = vec![0x40903C00, 0x80000000, 0x10F80000];
+    assert_eq!(taught(&stream, &[], 3), (report(SENT, 8, 3), all));
+    let note = vec![0x40903C00, 0x80000000];
+    assert_eq!(taught(&stream, &[], 2), (report(OUTPUT_SHORT, 7, 2), note));
+    assert_eq!(
+        taught(&stream, &[], 1),
+        (report(OUTPUT_SHORT, 0, 0), vec![UNTOUCHED])
+    );
+    assert_eq!(taught(&stream[..4], &[], 2).0, report(CUT, 3, 2));
+    assert_eq!(taught(&stream[3..4], &[], 0), (report(CUT, 0, 0), vec![]));
+}
+
+#[test]
+fn a_lesson_remembers_within_itself_and_nothing_of_the_one_before() {
+    let stream = [0x20B06503, 0x20B06404, 0x20B00605, 0x20B02601];
+    let (done, out) = taught(&stream, &[], 4);
+    assert_eq!((done.answer, done.read, done.written), (SENT, 4, 2));
+    assert_eq!(out, [0x40200304, 0x0A040000, UNTOUCHED, UNTOUCHED]);
+    for end in 1..4 {
+        for part in [&stream[..end], &stream[end..]] {
+            assert_eq!(taught(part, &[], 4).0.written, 0);
+        }
+    }
+    // A marked channel sends at controller 6, if its address came in the same lesson.
+    for (end, sent) in [(1, [0, 0]), (2, [0, 0]), (3, [2, 0])] {
+        let written = [&stream[..end], &stream[end..]].map(|part| taught(part, &[1], 4).0.written);
+        assert_eq!(written, sent);
+    }
+}

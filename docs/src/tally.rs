@@ -1,4 +1,5 @@
-//! What a comparison has seen of keys, of the question about them and of the marking call.
+//! What a comparison has seen of keys, of the question about them, of the marking call and of the
+//! marks of lessons.
 
 use reading::{
     Keys, Record, ABOVE_15, ANSWERED, COARSE, FINE, MISSING, NOT_256_RECORDS, NOT_SOUND,
@@ -166,5 +167,37 @@ impl Marks {
         println!("it marked {WAYS:?}: {ways:?}, and dropped data high: {dropped:?}");
         let mut all = off.iter().chain(&on).chain(ways).chain(dropped);
         all.all(|count| *count > 0)
+    }
+}
+
+/// The longest list of marks that a lesson is lent.
+pub const LONGEST_COARSE: usize = 20;
+
+/// How many lessons had a list of marks of each length, and in how many of them marks changed what
+/// was sent.
+pub struct Lessons {
+    lengths: [usize; LONGEST_COARSE + 1],
+    told_apart: [usize; LONGEST_COARSE + 1],
+}
+
+impl Lessons {
+    pub fn new() -> Lessons {
+        Lessons {
+            lengths: [0; LONGEST_COARSE + 1],
+            told_apart: [0; LONGEST_COARSE + 1],
+        }
+    }
+
+    pub fn count(&mut self, length: usize, told_apart: bool) {
+        self.lengths[length] += 1;
+        self.told_apart[length] += usize::from(told_apart);
+    }
+
+    /// Prints the counts; false if a length never came or marks of that length changed nothing.
+    pub fn summary(&self) -> bool {
+        let [lengths, told_apart] = [self.lengths, self.told_apart];
+        println!("lessons by length of the list of marks: {lengths:?}");
+        println!("lessons in which marks changed what was sent: {told_apart:?}");
+        lengths[0] > 0 && told_apart[1..].iter().all(|count| *count > 0)
     }
 }

@@ -1,4 +1,4 @@
-//! Times two upward runs over the same million words.
+//! Times the upward runs of two sides over the same million words.
 
 use crate::packets::{packet, Dice};
 use reading::{empty, size, Done, Record, COARSE};
@@ -10,45 +10,77 @@ const ROUNDS: usize = 30;
 /// The words go through in pieces: few of them are interrupted, and each has its own best time.
 /// A packet that a piece cuts is the first of the next, so one piece more takes what is left.
 const PIECE: usize = 2_000;
-const PIECES: usize = WORDS / PIECE + 1;
 
-type RunUp = fn(&[u32], &mut [Record], &mut [u32]) -> Done;
-type Best = [Duration; PIECES];
+/// Of a lesson every piece has its own table to make, which hardly counts in a longer one.
+const LESSON_PIECE: usize = 20_000;
 
-/// A million words, the table they start from, and the best times of both sides.
+/// The two runs of one side.
+pub struct Side {
+    pub run_up: fn(&[u32], &mut [Record], &mut [u32]) -> Done,
+    pub lesson: fn(&[u32], &[u16], &mut [u32]) -> Done,
+}
+
+/// A million words, the table they start from, and the best times of both sides for each piece.
+/// There is no table for lessons, which have their own.
 struct Mix {
     name: &'static str,
     words: Vec<u32>,
-    table: [Record; 256],
-    best: [Best; 2],
+    table: Option<[Record; 256]>,
+    piece: usize,
+    best: [Vec<Duration>; 2],
 }
 
 impl Mix {
-    fn new(name: &'static str, words: Vec<u32>, table: [Record; 256]) -> Mix {
+    fn new(name: &'static str, words: Vec<u32>, table: Option<[Record; 256]>) -> Mix {
+        let piece = match table {
+            Some(_) => PIECE,
+            None => LESSON_PIECE,
+        };
+        let pieces = WORDS / piece + 1;
         Mix {
             name,
             words,
             table,
-            best: [[Duration::MAX; PIECES]; 2],
+            piece,
+            best: [(); 2].map(|_| vec![Duration::MAX; pieces]),
         }
+    }
+
+    fn time(&mut self, sides: &[Side; 2], side: usize, out: &mut [u32]) {
+        let (words, mut table) = (&self.words, self.table);
+        let (mut read, mut written) = (0, 0);
+        for best in &mut self.best[side] {
+            let piece = &words[read..words.len().min(read + self.piece)];
+            let out = &mut out[written..];
+            let start = Instant::now();
+            let done = match &mut table {
+                Some(table) => (sides[side].run_up)(piece, table, out),
+                None => (sides[side].lesson)(piece, &[], out),
+            };
+            *best = start.elapsed().min(*best);
+            read += done.read;
+            written += done.written;
+        }
+        assert_eq!(read, words.len());
     }
 }
 
-/// Times both sides in turn, in each round the other one first, and prints a row for each mix: its
-/// name, then the best nanoseconds a word of the product and of the reading.
-pub fn compare(product: RunUp, reading: RunUp) {
-    let sides = [product, reading];
+/// Times the product and the reading in turn, in each round the other one first, and prints a row
+/// for each mix: its name, then the best nanoseconds a word of the product and of the reading.
+pub fn compare(sides: [Side; 2]) {
     let mut out = vec![0; 2 * WORDS];
     let fresh = [empty(); 256];
     let mut mixes = [
-        Mix::new("random-mix", random_mix(), fresh),
-        Mix::new("played-music", played_music(), fresh),
-        Mix::new("mix-marked", random_mix(), a_tenth_marked()),
+        Mix::new("random-mix", random_mix(), Some(fresh)),
+        Mix::new("played-music", played_music(), Some(fresh)),
+        Mix::new("mix-marked", random_mix(), Some(a_tenth_marked())),
+        Mix::new("lesson-mix", random_mix(), None),
+        Mix::new("lesson-music", played_music(), None),
     ];
     for round in 0..ROUNDS {
         for mix in &mut mixes {
             for side in [round % 2, 1 - round % 2] {
-                time(sides[side], mix, side, &mut out);
+                mix.time(&sides, side, &mut out);
             }
         }
     }
@@ -58,22 +90,8 @@ pub fn compare(product: RunUp, reading: RunUp) {
     }
 }
 
-fn nanoseconds_a_word(best: Best) -> f64 {
+fn nanoseconds_a_word(best: Vec<Duration>) -> f64 {
     best.iter().sum::<Duration>().as_secs_f64() * 1e9 / WORDS as f64
-}
-
-fn time(run: RunUp, mix: &mut Mix, side: usize, out: &mut [u32]) {
-    let (words, mut table) = (&mix.words, mix.table);
-    let (mut read, mut written) = (0, 0);
-    for best in &mut mix.best[side] {
-        let end = words.len().min(read + PIECE);
-        let start = Instant::now();
-        let done = run(&words[read..end], &mut table, &mut out[written..]);
-        *best = start.elapsed().min(*best);
-        read += done.read;
-        written += done.written;
-    }
-    assert_eq!(read, words.len());
 }
 
 /// Marks on 26 channels, one of which is a channel that the random mix speaks of often.
