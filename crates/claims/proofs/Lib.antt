@@ -12,3 +12,4 @@ pub mod PlaceLaws
 pub mod PictureLaws
 pub mod MarkLaws
 pub mod SoundnessLaws
+pub mod LessonLaws

@@ -24,6 +24,7 @@ use Rattle.table.specs.Table.{SoundTable}
 use Rattle.table.proofs.KeptLaws.{at-set, one-keeps, run-keeps}
 use Rattle.question.specs.Question.{inRange, placeAsked}
 use Rattle.mark.specs.Mark.{markAnswer, named, recordOf, tableMarked}
+use Rattle.mark.proofs.LessonLaws.{Bare, bare}
 use Rattle.mark.proofs.PlaceLaws.{named-inside}
 use Rattle.claims.specs.Refusals.{numbered}
 use Rattle.claims.specs.Marks.{Coarsely, Marks, Setting, casesMark, markOn}
@@ -46,13 +47,6 @@ module _ (t : List Record) where
 
   same-after : (k : ℕ) (r : Record) (w : ℕ) → sound (r .memory) ≡ true → Same k r → Same k (recordAfter r (read1 w))
   same-after k r w _ h = lift-marks (r .memory) (read1 w) ∙ h
-
--- empty but for the mark, and so with another
-abbrev Bare : Record → Type 0
-Bare r = r ≡ withMark empty (r .memory .coarse)
-
-bare : (n : ℕ) → Bare (withMark empty n)
-bare n = by-bool (eqb n 0) (λ e. rw e) (λ e. rw e)
 
 -- the setting call, by whether a record is named and whether it is sound
 module _ (t : List Record) (group channel : ℕ) where

@@ -29,7 +29,7 @@ use Rattle.channel.specs.declared.Record.{Record}
 use Rattle.channel.specs.Record.{empty, fresh, wholeTable}
 use Rattle.message.specs.Message.{Midi1, read1, write2}
 use Rattle.lift.specs.Played.{event, keysAfter, recordAfter}
-use Rattle.table.specs.Table.{oneUp, runUp, tableAfter, tableUp}
+use Rattle.table.specs.Table.{oneUp, runUp, tableAfter, tableBy, tableUp}
 use Rattle.table.proofs.KeptLaws.{all-empty}
 use Rattle.question.specs.Question.{keysAsked, keysTold, lowestTold, placeAsked}
 use Rattle.claims.specs.Picture.{Picture, accepted, acceptedOn, heardOn, heardOnce, isOn, keysOn, messagesOn}
@@ -42,7 +42,7 @@ use Rattle.claims.proofs.StreamLaws.{standing}
 -- a run is that over the packets with a table that is not whole too: the first call stops
 left-by-run : (room : ℕ) (t : List Record) (s : List ℕ)
     → tableAfter (runUp room t s) ≡ run (within tableUp) (room, t) (cut s) .left .1
-unfolding runUp run within tableUp
+unfolding runUp run within tableBy
 left-by-run room t s =
     choose (λ (r : Ran (ℕ × List Record)). tableAfter r ≡ run (within tableUp) (room, t) (cut s) .left .1)
     (eqb (length t) wholeTable) (λ _. refl) (λ e. go e (cut s))

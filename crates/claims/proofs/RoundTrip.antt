@@ -32,9 +32,8 @@ use Rattle.lift.specs.Lift.{banked2, lift}
 use Rattle.lift.specs.Played.{recordAfter}
 use Rattle.lift.proofs.LiftLaws.{Upward, lift-marks, lift-sound, lift-upward, read1-fits, upward-fits}
 use Rattle.lower.specs.Lower.{lower}
-use Rattle.voice.specs.Packet.{callDown, callUp, packetDown, packetUp, runDown, sending, sendingDown, speakDown}
-use Rattle.voice.specs.Packet.{speakUp}
-use Rattle.table.specs.Table.{runUp, stored, tableUp}
+use Rattle.voice.specs.Packet.{callBy, callDown, packetDown, packetIf, runDown, sending, sendingDown, speakDown, speakIf}
+use Rattle.table.specs.Table.{runUp, stored, tableBy, tableUp}
 use Rattle.table.proofs.KeptLaws.{at-set, fresh-unmarked, marked-sound}
 use Rattle.claims.specs.Marks.{markOn}
 use Rattle.claims.specs.RoundTrip.{Blank, Gated, RoundTrip, RoundTripGated, StillPasses}
@@ -81,7 +80,7 @@ module _ (g : Group) (c : Channel) (hg : g .0 < 16) (hc : c .0 < 16) where
       → sound (getD t (recordNumber g c) empty) ≡ true
       → let r = getD t (recordNumber g c) empty in
       tableUp t (write1 g c m ∷ []) ≡ stored t (recordNumber g c) (sending g c (recordAfter r m) (lift (r .memory) m .sends))
-  unfolding tableUp callUp packetUp screened speakUp
+  unfolding tableBy callBy packetIf screened speakIf
   up-written t m f l h =
       let p = place1 g c hg hc m f in
       let k : placeOf (write1 g c m) ≡ recordNumber g c = ap₂ recordNumber (p .0) (p .1) in
@@ -110,7 +109,7 @@ memory-all (m ∷ ms) r = memory-all ms (recordAfter r m)
 -- a packet that is sent on, either way
 up-onward : (t : List Record) (p : List ℕ) → length t ≡ wholeTable → Whole p → screen voice2 p .answer ≡ goesOn
     → eqb (messageType (first p)) voice1 ≡ false → tableUp t p ≡ went sent p t
-unfolding tableUp callUp packetUp screened
+unfolding tableBy callBy packetIf screened
 up-onward t p l w f e =
     rw (eq-eqb (length t) wholeTable l, packet-whole p w, f, e, set-getD t (placeOf (first p)) empty)
 

@@ -19,10 +19,10 @@ use Rattle.stream.proofs.RunLaws.{Does}
 use Rattle.screen.specs.Screen.{goesOn, screen}
 use Rattle.screen.proofs.ScreenLaws.{passed, refused-above}
 use Rattle.channel.specs.declared.Record.{Record}
-use Rattle.channel.specs.Record.{empty, wholeTable}
-use Rattle.voice.specs.Packet.{callDown, callUp}
+use Rattle.channel.specs.Record.{empty, sound, wholeTable}
+use Rattle.voice.specs.Packet.{callBy, callDown}
 use Rattle.voice.proofs.PacketLaws.{UpCases, down-cases, down-does, few-down, up-cases, up-does}
-use Rattle.table.specs.Table.{stored, tableUp}
+use Rattle.table.specs.Table.{stored, tableBy, tableUp}
 use Rattle.table.proofs.KeptLaws.{table-does}
 use Rattle.claims.proofs.StreamLaws.{standing}
 
@@ -48,14 +48,15 @@ stored-refused t k a =
 pub table-cases : (P : Call (List Record) → Type 0) (t : List Record) (s : List ℕ)
     → (eqb (length t) wholeTable ≡ false → P (stopped noTable))
     → (eqb (length t) wholeTable ≡ true
-    → UpCases P t (set t (placeOf (first s))) (getD t (placeOf (first s)) empty) (packet s) (first (packet s)))
+    → let r = getD t (placeOf (first s)) empty in
+    UpCases P t (set t (placeOf (first s))) (sound r) r (packet s) (first (packet s)))
     → P (tableUp t s)
-unfolding tableUp callUp
+unfolding tableBy callBy
 table-cases P t s ten filled =
     let k = placeOf (first s) in
     choose P (eqb (length t) wholeTable)
     (λ full. let u = filled full in
-    up-cases (λ (c : Call Record). P (stored t k c)) (getD t k empty) (packet s)
+    up-cases (λ (c : Call Record). P (stored t k c)) (sound (getD t k empty)) (getD t k empty) (packet s)
     (record {
       refuses = λ n. rw (stored-refused t k (screen voice2 (packet s) .answer)) (u .refuses n);
       onward = λ f e. rw (set-getD t k empty) (u .onward f e);
@@ -68,7 +69,7 @@ table-cases P t s ten filled =
 -- up stops with 3, 8 and 10 alone, and down with 3; what holds of the table with any own record holds of the table left
 pub up-calls : (I : List Record → Type 0) (A : ℕ → Type 0) → A cutPacket → A notSound → A noTable
     → (t : List Record) (s : List ℕ) → ((r : Record) → I (set t (placeOf (first s)) r)) → Does I A (tableUp t s)
-unfolding callUp
+unfolding callBy
 up-calls I A three eight ten t s other =
     let k = placeOf (first s) in
     table-does I A t s ten

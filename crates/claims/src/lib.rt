@@ -1,5 +1,6 @@
 // Theorems about the definitions of the translator. Each stands as a type in specs/ and is proved in
 // proofs/; the functions below do nothing and ensure them, so that a check names each.
+ghost use Rattle.claims.specs.Lessons.{Lessons};
 ghost use Rattle.claims.specs.Marks.{Marks};
 ghost use Rattle.claims.specs.NormalForm.{NormalForm};
 ghost use Rattle.claims.specs.PacketByPacket.{PacketByPacket};
@@ -58,4 +59,9 @@ pub fn marks()
 // Records stay sound after every packet.
 pub fn soundness()
     ensures { λ _. ⌜ Soundness ⌝ }
+{}
+
+// The lesson run is the run up from its table.
+pub fn lessons()
+    ensures { λ _. ⌜ Lessons ⌝ }
 {}

@@ -16,6 +16,7 @@ pub use lamps::panel;
 pub use lines::list_some;
 use stream::Done;
 use table::run_from;
+use table::whole_run;
 use tally::tally_of;
 ghost use mathlib.Core.Path.{_≡_};
 ghost use lib.ListN.{length, take};
@@ -72,7 +73,7 @@ pub fn up_some(table: Table, words: &[u32], out: &mut [u32]) -> TableReportAndCo
         (runUp (length (now (out .entry))) (table .records) (now (words .entry)) .sends) (now (out .entry)) ⌝ }
 {
     let records = table.records;
-    let ran = run_from(records, words, out);
+    let ran = run_from(records, words, out, whole_run());
     let records = ran.records;
     let table = Table { records };
     let done = ran.done;

@@ -51,7 +51,7 @@ fn called(words: &[u32], past: Done, record: Record, four: &mut [u32]) -> Record
     ensures output { λ _. ⌜ now (four .exit)
         ≡ outputOf past (now (four .entry)) (packetUp «record» (next (now (words .entry)) past)) ⌝ }
 {
-    let turned = voice::up(words, past, record, four);
+    let turned = voice::up(words, past, record, false, four);
     let memory = turned.after;
     let key = ump::data1(ump::word_at(words, past.read));
     let after = effected(record, turned.effect, memory, key);

@@ -1,1 +1,2 @@
+pub mod LessonLaws
 pub mod PlaceLaws

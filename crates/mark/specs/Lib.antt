@@ -1,1 +1,2 @@
+pub mod Lesson
 pub mod Mark

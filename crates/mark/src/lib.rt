@@ -1,7 +1,10 @@
 // The coarse mark of a channel, set or taken off by group and channel.
 //
 // Every function is total, and says what it does by a definition of specs/. Whoever lends a table reads
-// and stores the one record; `mark_in` does it for a table by value.
+// and stores the one record; `mark_in` does it for a table by value, and `marked_table` makes one with the
+// marks of a list.
+mod table;
+
 use channel::RECORDS;
 use channel::Record;
 use question::is_in_range;
@@ -10,6 +13,7 @@ use stream::ANSWERED;
 use stream::NO_TABLE;
 use stream::NOT_SOUND;
 use stream::OUT_OF_RANGE;
+pub use table::marked_table;
 ghost use mathlib.Core.Path.{_≡_};
 ghost use Rattle.mark.specs.Mark;
 

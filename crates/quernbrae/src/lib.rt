@@ -16,6 +16,7 @@ ghost use Rattle.stream.specs.Report.{reported, reportedCall};
 ghost use Rattle.channel.specs.Record.{empty};
 ghost use Rattle.question.specs.Question.{keysAsked};
 ghost use Rattle.mark.specs.Mark.{markAnswer, tableMarked};
+ghost use Rattle.lesson.specs.Lesson.{lesson, lessonReport};
 ghost use Rattle.voice.specs.Packet.{oneDown, runDown};
 ghost use Rattle.table.specs.Table.{oneUp, runUp, tableAfter};
 
@@ -51,6 +52,17 @@ pub extern "C" fn quernbrae_run_up(words: &[u32], table: &mut [Record], out: &mu
         (runUp (length (now (out .entry))) (now (table .entry)) (now (words .entry)) .sends) (now (out .entry)) ⌝ }
 {
     treat(words, table::whole_run(), table, out)
+}
+
+// A lesson: a run up over a table of its own, empty but for the marks of `coarse`.
+#[no_mangle]
+pub extern "C" fn quernbrae_lesson(words: &[u32], coarse: &[u16], out: &mut [u32]) -> Done
+    ensures report { λ r. ⌜ r
+        ≡ lessonReport (lesson (length (now (out .entry))) (now (coarse .entry)) (now (words .entry))) ⌝ }
+    ensures output { λ _. ⌜ now (out .exit) ≡ atStart
+        (lesson (length (now (out .entry))) (now (coarse .entry)) (now (words .entry)) .sends) (now (out .entry)) ⌝ }
+{
+    lesson::run(words, coarse, out)
 }
 
 // One call down: the packet at the start of the words.

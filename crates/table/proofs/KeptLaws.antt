@@ -19,9 +19,9 @@ use Rattle.channel.specs.Record.{EmptyButMarks, empty, fresh, sound, wholeTable
 use Rattle.memory.proofs.Sound.{proved-stays-sound}
 use Rattle.message.specs.Message.{read1}
 use Rattle.lift.specs.Played.{recordAfter}
-use Rattle.voice.specs.Packet.{callUp}
+use Rattle.voice.specs.Packet.{callBy, callUp}
 use Rattle.voice.proofs.PacketLaws.{up-does}
-use Rattle.table.specs.Table.{SoundTable, oneUp, runUp, stored, tableAfter, tableUp}
+use Rattle.table.specs.Table.{SoundTable, oneUp, runUp, stored, tableAfter, tableBy, tableUp}
 
 -- what holds of each record at its place, and of one that replaces one
 pub at-set : (P : ℕ → Record → Type 0) (t : List Record) (k : ℕ) (r : Record) → P k r → ((j : ℕ) → P j (getD t j empty))
@@ -51,7 +51,7 @@ marked-sound t m k =
 pub table-does : (I : List Record → Type 0) (A : ℕ → Type 0) (t : List Record) (s : List ℕ) → A noTable
     → Does (λ (x : Record). I (set t (placeOf (first s)) x)) A (callUp (getD t (placeOf (first s)) empty) s)
     → Does I A (tableUp t s)
-unfolding tableUp
+unfolding tableBy
 table-does I A t s ten d =
     choose (Does I A) (eqb (length t) wholeTable) (λ _. go (callUp (getD t (placeOf (first s)) empty) s) d) (λ _. ten)
   where
@@ -79,7 +79,7 @@ module _
     (kept : (k : ℕ) (r : Record) (w : ℕ) → sound r ≡ true → P k r → P k (recordAfter r (read1 w)))
   where
     pub call-keeps : (u : ℕ × List Record) (s : List ℕ) → Each P (u .1) → Keeps P A (within tableUp u s)
-    unfolding callUp
+    unfolding callBy
     call-keeps u s h =
         within-does tableUp (Each P) A nine u s
         (table-does (Each P) A t s ten

@@ -1,5 +1,6 @@
 pub mod TableLaws
 pub mod KeptLaws
+pub mod KnownLaws
 pub mod StepLaws
 pub mod Values
 pub mod Turns

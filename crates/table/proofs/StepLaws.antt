@@ -1,7 +1,7 @@
 -- The call with a record beside the call with the table; and what the loop asks of a step. Assumes nothing.
 use Prim.Native.Nat.{ℕ, _-_, _<_}
 use mathlib.Core.Path.{_≡_, ap, sym, subst, _∙_}
-use mathlib.Core.Bool.{true, false}
+use mathlib.Core.Bool.{true, false, _||_}
 use mathlib.Core.List.{List, _∷_}
 use native.Mathlib.Omega.{arith}
 use lib.ListN.{drop, getD, length, set, take}
@@ -13,15 +13,15 @@ use Rattle.stream.specs.Answers.{noTable}
 use Rattle.stream.specs.Call.{leftOf, stopped, within}
 use Rattle.stream.proofs.RunLoop.{Inside}
 use Rattle.channel.specs.declared.Record.{Record}
-use Rattle.channel.specs.Record.{empty, wholeTable}
+use Rattle.channel.specs.Record.{empty, sound, wholeTable}
 use Rattle.voice.specs.declared.EffectAndReport.{EffectAndReport}
 use Rattle.effect.specs.Effect.{effected, leaves}
-use Rattle.voice.specs.Packet.{callUp}
+use Rattle.voice.specs.Packet.{callBy}
 use Rattle.voice.proofs.PacketLaws.{effect-at}
 use Rattle.voice.specs.Turn.{next}
 use Rattle.table.specs.declared.Job.{Job}
 use Rattle.stream.specs.declared.Done.{Done}
-use Rattle.table.specs.Table.{tableUp}
+use Rattle.table.specs.Table.{tableBy}
 use Rattle.table.specs.Job.{recordStep, tableStep}
 use Rattle.table.specs.Next.{outputAfterCall, reportAfterCall, stateAfter, turnAt}
 use Rattle.table.proofs.TableLaws.{own-call, placeAt, table-inside, table-near}
@@ -48,9 +48,9 @@ module _ (j : Job) (ws : List ℕ) (d : Done) (t : List Record) (out : List ℕ)
   room = length out - d .written
 
   -- it is the record that the call leaves
-  made-left : made ≡ leftOf (room, own) (within callUp (room, own) (drop (d .read) ws)) .1
-  unfolding recordStep within callUp
-  made-left = effect-at room own ws (d .read)
+  made-left : made ≡ leftOf (room, own) (within (callBy (j .known)) (room, own) (drop (d .read) ws)) .1
+  unfolding recordStep within callBy
+  made-left = effect-at room (j .known || sound own) own ws (d .read)
 
   pub as-table : length t ≡ wholeTable
       → (turn .done ≡ reportAfterCall (tableStep j) ws d t out)
@@ -58,7 +58,7 @@ module _ (j : Job) (ws : List ℕ) (d : Done) (t : List Record) (out : List ℕ)
       × (outputAfterCall (recordStep j) ws d own out ≡ outputAfterCall (tableStep j) ws d t out)
   unfolding recordStep tableStep within
   as-table l =
-      let e = own-call d (next ws d) room t ws (d .read) l in
+      let e = own-call (j .known) d (next ws d) room t ws (d .read) l in
       (e .0, ap (set t (placeAt ws (d .read))) made-left ∙ e .2, ap (λ (x : List ℕ). written (d .written) x out) (e .1))
 
   -- without an effect the table stays as it was
@@ -71,12 +71,12 @@ module _ (j : Job) (ws : List ℕ) (d : Done) (t : List Record) (out : List ℕ)
 module _ (j : Job) (t : List Record) where
   pub step-near : (w : ℕ) (s : List ℕ) → tableStep j t (take (size w) (w ∷ s)) ≡ tableStep j t (w ∷ s)
   unfolding tableStep
-  step-near w s = table-near t w s
+  step-near w s = table-near (j .known) t w s
 
   pub step-inside : (w : ℕ) (s : List ℕ) → Inside (w ∷ s) (tableStep j t (w ∷ s))
   unfolding tableStep
-  step-inside w s = table-inside t w s
+  step-inside w s = table-inside (j .known) t w s
 
   pub step-refuses : (room : ℕ) (s : List ℕ) → eqb (length t) wholeTable ≡ false → within (tableStep j) (room, t) s ≡ stopped noTable
-  unfolding within tableStep tableUp
+  unfolding within tableStep tableBy
   step-refuses room s e = rw e

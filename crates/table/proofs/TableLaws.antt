@@ -2,6 +2,7 @@
 -- the packet's own record. Assumes nothing.
 use Prim.Native.Nat.{ℕ, zero, suc, _≤_}
 use mathlib.Core.Path.{_≡_, refl, sym, ap, _∙_}
+use mathlib.Core.Bool.{Bool}
 use mathlib.Core.List.{List, _∷_}
 use native.Mathlib.Omega.{arith}
 use native.Mathlib.Nat.{add-zero}
@@ -19,9 +20,9 @@ use Rattle.stream.specs.Report.{further}
 use Rattle.stream.proofs.RunLoop.{Inside}
 use Rattle.channel.specs.declared.Record.{Record}
 use Rattle.channel.specs.Record.{empty, wholeTable}
-use Rattle.voice.specs.Packet.{callUp}
+use Rattle.voice.specs.Packet.{callBy}
 use Rattle.voice.proofs.PacketLaws.{up-inside}
-use Rattle.table.specs.Table.{stored, tableUp}
+use Rattle.table.specs.Table.{stored, tableBy}
 
 first-near : (w : ℕ) (s : List ℕ) → first (take (size w) (w ∷ s)) ≡ w
 first-near w s = go (size w) (size-range w)
@@ -30,20 +31,21 @@ first-near w s = go (size w) (size-range w)
     go zero h = absurd (omega arith)
     go (suc n) h = refl
 
-pub table-near : (t : List Record) (w : ℕ) (s : List ℕ) → tableUp t (take (size w) (w ∷ s)) ≡ tableUp t (w ∷ s)
-unfolding tableUp callUp
-table-near t w s = rw (first-near w s, packet-near w s)
+pub table-near : (known : Bool) (t : List Record) (w : ℕ) (s : List ℕ)
+    → tableBy known t (take (size w) (w ∷ s)) ≡ tableBy known t (w ∷ s)
+unfolding tableBy callBy
+table-near known t w s = rw (first-near w s, packet-near w s)
 
 stored-inside : (t : List Record) (k : ℕ) (s : List ℕ) (c : Call Record) → Inside s c → Inside s (stored t k c)
 stored-inside t k s (went a ws u) h = h
 stored-inside t k s (stopped a) h = tt
 
-pub table-inside : (t : List Record) (w : ℕ) (s : List ℕ) → Inside (w ∷ s) (tableUp t (w ∷ s))
-unfolding tableUp
-table-inside t w s =
+pub table-inside : (known : Bool) (t : List Record) (w : ℕ) (s : List ℕ) → Inside (w ∷ s) (tableBy known t (w ∷ s))
+unfolding tableBy
+table-inside known t w s =
     let r = getD t (placeOf w) empty in
     choose (λ (c : Call (List Record)). Inside (w ∷ s) c) (eqb (length t) wholeTable)
-    (λ _. stored-inside t (placeOf w) (w ∷ s) (callUp r (w ∷ s)) (up-inside r w s)) (λ _. tt)
+    (λ _. stored-inside t (placeOf w) (w ∷ s) (callBy known r (w ∷ s)) (up-inside known r w s)) (λ _. tt)
 
 -- a call with the packet's own record is the call with the table, and the record after stands in its place
 pub with-table : (room : ℕ) (t : List Record) (k : ℕ) (p : List ℕ) (c : Call Record)
@@ -63,18 +65,18 @@ first-at ws i = getD-drop i ws 0 0 ∙ ap (λ (n : ℕ). getD ws n 0) (add-zero 
 abbrev pub placeAt : List ℕ → ℕ → ℕ
 placeAt ws i = placeOf (getD ws i 0)
 
-pub table-at : (ws : List ℕ) (t : List Record) (i : ℕ) → length t ≡ wholeTable
-    → tableUp t (drop i ws) ≡ stored t (placeAt ws i) (callUp (getD t (placeAt ws i) empty) (drop i ws))
-unfolding tableUp
-table-at ws t i l = rw (eq-eqb (length t) wholeTable l, first-at ws i)
+pub table-at : (known : Bool) (ws : List ℕ) (t : List Record) (i : ℕ) → length t ≡ wholeTable
+    → tableBy known t (drop i ws) ≡ stored t (placeAt ws i) (callBy known (getD t (placeAt ws i) empty) (drop i ws))
+unfolding tableBy
+table-at known ws t i l = rw (eq-eqb (length t) wholeTable l, first-at ws i)
 
 -- what is reported of the call with the packet's own record is what is reported of the call with a whole table
-pub own-call : (d : Done) (p : List ℕ) (room : ℕ) (t : List Record) (ws : List ℕ) (i : ℕ) → length t ≡ wholeTable
-    → let own = within callUp (room, getD t (placeAt ws i) empty) (drop i ws) in
-    let all = within tableUp (room, t) (drop i ws) in
+pub own-call : (known : Bool) (d : Done) (p : List ℕ) (room : ℕ) (t : List Record) (ws : List ℕ) (i : ℕ) → length t ≡ wholeTable
+    → let own = within (callBy known) (room, getD t (placeAt ws i) empty) (drop i ws) in
+    let all = within (tableBy known) (room, t) (drop i ws) in
     (further d p own ≡ further d p all) × (sentOf own ≡ sentOf all)
     × (set t (placeAt ws i) (leftOf (room, getD t (placeAt ws i) empty) own .1) ≡ leftOf (room, t) all .1)
 unfolding within
-own-call d p room t ws i l =
-    let y = with-table room t (placeAt ws i) p (callUp (getD t (placeAt ws i) empty) (drop i ws)) in
-    rw (table-at ws t i l, y .0, y .1, y .2, y .3) (refl, refl, refl)
+own-call known d p room t ws i l =
+    let y = with-table room t (placeAt ws i) p (callBy known (getD t (placeAt ws i) empty) (drop i ws)) in
+    rw (table-at known ws t i l, y .0, y .1, y .2, y .3) (refl, refl, refl)

@@ -8,22 +8,26 @@ use Rattle.stream.specs.Call.{Call, within}
 use Rattle.stream.specs.Report.{reported, reportedCall}
 use Rattle.stream.specs.Run.{Ran, called}
 use Rattle.channel.specs.declared.Record.{Record}
-use Rattle.voice.specs.Packet.{callUp}
-use Rattle.table.specs.Table.{runBy, tableUp}
+use Rattle.voice.specs.Packet.{callBy}
+use Rattle.table.specs.Table.{runBy, tableBy}
 use Rattle.table.specs.declared.Job.{Job}
 
 abbrev pub oneCall : Job
-oneCall = record { once = true }
+oneCall = record { once = true; known = false }
 
 abbrev pub wholeRun : Job
-wholeRun = record { once = false }
+wholeRun = record { once = false; known = false }
+
+-- a run over records that are known to be sound (02 M-111)
+abbrev pub knownRun : Job
+knownRun = record { once = false; known = true }
 
 -- what a packet does with its record, what a call does with the table, and what is asked of the words
 unfoldable pub recordStep : Job → Record → List ℕ → Call Record
-recordStep job = callUp
+recordStep job = callBy (job .known)
 
 unfoldable pub tableStep : Job → List Record → List ℕ → Call (List Record)
-tableStep job = tableUp
+tableStep job = tableBy (job .known)
 
 abbrev pub askedBy : (List Record → List ℕ → Call (List Record)) → Bool → ℕ → List Record → List ℕ
     → Ran (ℕ × List Record)

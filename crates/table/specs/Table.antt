@@ -1,7 +1,7 @@
 -- Calls and runs over the table that the caller lends (RULES 3 and 4).
 use Prim.Native.Nat.{ℕ}
 use mathlib.Core.Path.{_≡_}
-use mathlib.Core.Bool.{true, cond}
+use mathlib.Core.Bool.{Bool, true, false, cond}
 use mathlib.Core.List.{List, []}
 use lib.ListN.{getD, length, set}
 use lib.Dec.{eqb}
@@ -12,19 +12,23 @@ use Rattle.stream.specs.Call.{Call, stopped, went, within}
 use Rattle.stream.specs.Run.{Ran, called, run}
 use Rattle.channel.specs.declared.Record.{Record}
 use Rattle.channel.specs.Record.{empty, sound, wholeTable}
-use Rattle.voice.specs.Packet.{callUp}
+use Rattle.voice.specs.Packet.{callBy}
 
 -- one place of the table is replaced
 abbrev pub stored : List Record → ℕ → Call Record → Call (List Record)
 stored t k (went a ws r) = went a ws (set t k r)
 stored t k (stopped a) = stopped a
 
--- One call up: with a table that is not whole it stops, and else it is the call with the packet's own record.
-unfoldable pub tableUp : List Record → List ℕ → Call (List Record)
-tableUp t s =
+-- One call up: with a table that is not whole it stops, and else it is the call with the packet's own record. That is
+-- asked to be sound, unless the records are known to be (02 M-111).
+unfoldable pub tableBy : Bool → List Record → List ℕ → Call (List Record)
+tableBy known t s =
     cond (eqb (length t) wholeTable)
-    (stored t (placeOf (first s)) (callUp (getD t (placeOf (first s)) empty) s))
+    (stored t (placeOf (first s)) (callBy known (getD t (placeOf (first s)) empty) s))
     (stopped noTable)
+
+abbrev pub tableUp : List Record → List ℕ → Call (List Record)
+tableUp = tableBy false
 
 -- A run up by any step, in an output of so many words: the table is asked once more than there are packets.
 abbrev pub runBy : (List Record → List ℕ → Call (List Record)) → ℕ → List Record → List ℕ → Ran (ℕ × List Record)

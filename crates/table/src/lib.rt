@@ -21,15 +21,18 @@ ghost use lib.ListN.{getD, length};
 ghost use Rattle.ground.specs.Store.{atStart};
 ghost use Rattle.ump.specs.Word.{data1, placeOf};
 ghost use Rattle.stream.specs.Answers.{noTable, sent};
-ghost use Rattle.stream.specs.Report.{counting, placing, reported};
+ghost use Rattle.stream.specs.Report.{counting, placing};
 ghost use Rattle.channel.specs.Record.{empty, wholeTable};
-ghost use Rattle.table.specs.Table.{runUp, tableAfter};
-ghost use Rattle.table.specs.Job.{asked, askedReport, oneCall, recordStep, tableStep, wholeRun};
+ghost use Rattle.table.specs.Table.{tableAfter};
+ghost use Rattle.table.specs.Job.{asked, askedReport, knownRun, oneCall, recordStep, tableStep};
+ghost use Rattle.table.specs.Job.{wholeRun};
 ghost use Rattle.table.specs.Next.{outputAfterCall, reportAfterCall, stateAfter, turnAt};
 
-// What the loop is told: whether it is to make one call only.
+// What the loop is told: whether it is to make one call only, and whether its records are known to be
+// sound.
 pub struct Job {
     pub once: bool,
+    pub known: bool,
 }
 
 // How far a call or a run is: the report so far, and whether another packet is to be treated.
@@ -47,13 +50,29 @@ pub struct TableAndReport {
 pub fn one_call() -> Job
     ensures { λ r. ⌜ r ≡ oneCall ⌝ }
 {
-    Job { once: true }
+    Job {
+        once: true,
+        known: false,
+    }
 }
 
 pub fn whole_run() -> Job
     ensures { λ r. ⌜ r ≡ wholeRun ⌝ }
 {
-    Job { once: false }
+    Job {
+        once: false,
+        known: false,
+    }
+}
+
+// A run over records that are known to be sound: none is asked.
+pub fn known_run() -> Job
+    ensures { λ r. ⌜ r ≡ knownRun ⌝ }
+{
+    Job {
+        once: false,
+        known: true,
+    }
 }
 
 // The record at a place, and an empty one past the end.
@@ -99,13 +118,13 @@ fn key_of(words: &[u32], past: Done) -> u8
     ump::data1(ump::word_at(words, past.read))
 }
 
-// The call at the next packet, with its record. What the job may ask of a packet is asked here; today it asks nothing.
+// The call at the next packet, with its record.
 fn step(words: &[u32], job: Job, past: Done, record: Record, out: &mut [u32]) -> EffectAndReport
     ensures turn { λ r. ⌜ r ≡ turnAt (recordStep job) (now (words .entry)) past «record» (now (out .entry)) ⌝ }
     ensures output { λ _. ⌜ now (out .exit)
         ≡ outputAfterCall (recordStep job) (now (words .entry)) past «record» (now (out .entry)) ⌝ }
 {
-    voice::up(words, past, record, out)
+    voice::up(words, past, record, job.known, out)
 }
 
 // The call at the next packet, with the table, which is a whole one.
@@ -176,16 +195,21 @@ pub fn treat(words: &[u32], job: Job, table: &mut [Record], out: &mut [u32]) -> 
     p.done
 }
 
-// A run up from a table by value, which is lent to the loop.
-pub fn run_from(table: [Record; RECORDS], words: &[u32], out: &mut [u32]) -> TableAndReport
-    ensures report { λ r. ⌜ r .done
-        ≡ reported (runUp (length (now (out .entry))) «table» (now (words .entry))) ⌝ }
+// The same with a table by value, which is lent to the loop.
+pub fn run_from(
+    table: [Record; RECORDS],
+    words: &[u32],
+    out: &mut [u32],
+    job: Job,
+) -> TableAndReport
+    ensures report { λ r. ⌜ r .done ≡ askedReport job (now (words .entry))
+        (asked job (length (now (out .entry))) «table» (now (words .entry))) ⌝ }
     ensures table { λ r. ⌜ r .records
-        ≡ tableAfter (runUp (length (now (out .entry))) «table» (now (words .entry))) ⌝ }
+        ≡ tableAfter (asked job (length (now (out .entry))) «table» (now (words .entry))) ⌝ }
     ensures output { λ _. ⌜ now (out .exit) ≡ atStart
-        (runUp (length (now (out .entry))) «table» (now (words .entry)) .sends) (now (out .entry)) ⌝ }
+        (asked job (length (now (out .entry))) «table» (now (words .entry)) .sends) (now (out .entry)) ⌝ }
 {
     let mut records = table;
-    let done = treat(words, whole_run(), &mut records, out);
+    let done = treat(words, job, &mut records, out);
     TableAndReport { records, done }
 }

@@ -2,7 +2,7 @@
 -- and it sends at most four words. Assumes nothing.
 use Prim.Native.Nat.{ℕ, zero, suc, _≤_}
 use mathlib.Core.Path.{_≡_, refl, sym, ap, subst, _∙_}
-use mathlib.Core.Bool.{true, false}
+use mathlib.Core.Bool.{Bool, true, false, _||_}
 use mathlib.Core.Logic.{_⊎_, inl, inr, ⊎-elim}
 use mathlib.Core.Option.{Option, none, some}
 use mathlib.Core.List.{List, [], _∷_, map}
@@ -31,8 +31,8 @@ use Rattle.lift.specs.Played.{recordAfter}
 use Rattle.lift.proofs.EffectLaws.{effect-does}
 use Rattle.lower.specs.Lower.{lower}
 use Rattle.lower.proofs.LowerLaws.{lower-few}
-use Rattle.voice.specs.Packet.{actDown, actUp, callDown, callUp, packetDown, packetUp, sending}
-use Rattle.voice.specs.Packet.{effectAt, sendingDown, speakDown, speakUp}
+use Rattle.voice.specs.Packet.{actDown, actIf, callBy, callDown, packetDown, packetIf, packetUp, sending}
+use Rattle.voice.specs.Packet.{effectAt, sendingDown, speakDown, speakIf}
 use Rattle.voice.specs.Turn.{effectBy}
 
 pub down-near : (t : Unit {0}) (w : ℕ) (s : List ℕ) → callDown t (take (size w) (w ∷ s)) ≡ callDown t (w ∷ s)
@@ -51,44 +51,44 @@ packet-inside {T} act e w s =
     go (went a ws u) e h = (e, h)
     go (stopped a) e h = tt
 
-pub up-inside : (r : Record) (w : ℕ) (s : List ℕ) → Inside (w ∷ s) (callUp r (w ∷ s))
-unfolding callUp packetUp screen screened refused
-up-inside r w s = packet-inside (packetUp r) refl w s
+pub up-inside : (known : Bool) (r : Record) (w : ℕ) (s : List ℕ) → Inside (w ∷ s) (callBy known r (w ∷ s))
+unfolding callBy packetIf screen screened refused
+up-inside known r w s = packet-inside (packetIf (known || sound r) r) refl w s
 
 pub down-inside : (t : Unit {0}) (w : ℕ) (s : List ℕ) → Inside (w ∷ s) (callDown t (w ∷ s))
 unfolding callDown packetDown screen screened refused
 down-inside t w s = packet-inside packetDown refl w s
 
--- What a call up comes to at the packet p, whose first word is w, with the record r: refused, sent on, or a voice
--- message. In a state t, where `put` puts a record back.
-pub record UpCases {T : Type 0} (P : Call T → Type 0) (t : T) (put : Record → T) (r : Record) (p : List ℕ)
+-- What a call up comes to at the packet p, whose first word is w, with the record r, of which `ok` says that it is sound:
+-- refused, sent on, or a voice message. In a state t, where `put` puts a record back.
+pub record UpCases {T : Type 0} (P : Call T → Type 0) (t : T) (put : Record → T) (ok : Bool) (r : Record) (p : List ℕ)
     (w : ℕ) : Type 0 where
   pub refuses : (screen voice2 p .answer ≡ goesOn → ⊥) → P (refused (screen voice2 p .answer) t)
   pub onward : screen voice2 p .answer ≡ goesOn → eqb (messageType w) voice1 ≡ false → P (went sent p t)
-  pub unsound : screen voice2 p .answer ≡ goesOn → eqb (messageType w) voice1 ≡ true → sound r ≡ false
+  pub unsound : screen voice2 p .answer ≡ goesOn → eqb (messageType w) voice1 ≡ true → ok ≡ false
       → P (stopped notSound)
-  pub takes : screen voice2 p .answer ≡ goesOn → eqb (messageType w) voice1 ≡ true → sound r ≡ true
+  pub takes : screen voice2 p .answer ≡ goesOn → eqb (messageType w) voice1 ≡ true → ok ≡ true
       → lift (r .memory) (read1 w) .sends ≡ none → P (went takenIn [] (put (recordAfter r (read1 w))))
-  pub sends : screen voice2 p .answer ≡ goesOn → eqb (messageType w) voice1 ≡ true → sound r ≡ true → (m : Midi2)
+  pub sends : screen voice2 p .answer ≡ goesOn → eqb (messageType w) voice1 ≡ true → ok ≡ true → (m : Midi2)
       → lift (r .memory) (read1 w) .sends ≡ some m
       → P (went sent (write2 (groupOf w) (channelOf w) m) (put (recordAfter r (read1 w))))
 
 abbrev itself : Record → Record
 itself r = r
 
-pub up-cases : (P : Call Record → Type 0) (r : Record) (p : List ℕ) → UpCases P r itself r p (first p)
-    → P (packetUp r p)
-unfolding packetUp speakUp
-up-cases P r p u =
-    screened-cases P (screen voice2 p) r (actUp r p)
+pub up-cases : (P : Call Record → Type 0) (ok : Bool) (r : Record) (p : List ℕ) → UpCases P r itself ok r p (first p)
+    → P (packetIf ok r p)
+unfolding packetIf speakIf
+up-cases P ok r p u =
+    screened-cases P (screen voice2 p) r (actIf ok r p)
     (λ f. choose P (eqb (messageType w) voice1)
-    (λ e. choose P (sound r) (λ h. go f e h (lift (r .memory) (read1 w) .sends) refl) (u .unsound f e)) (u .onward f))
+    (λ e. choose P ok (λ h. go f e h (lift (r .memory) (read1 w) .sends) refl) (u .unsound f e)) (u .onward f))
     (u .refuses)
   where
     w : ℕ
     w = first p
 
-    go : screen voice2 p .answer ≡ goesOn → eqb (messageType w) voice1 ≡ true → sound r ≡ true → (o : Option Midi2)
+    go : screen voice2 p .answer ≡ goesOn → eqb (messageType w) voice1 ≡ true → ok ≡ true → (o : Option Midi2)
         → lift (r .memory) (read1 w) .sends ≡ o → P (sending (groupOf w) (channelOf w) (recordAfter r (read1 w)) o)
     go f e h none k = u .takes f e h k
     go f e h (some m) k = u .sends f e h m k
@@ -128,7 +128,7 @@ refused-does I A wrong p t h three =
 pub up-does : (I : Record → Type 0) (A : ℕ → Type 0) (r : Record) (p : List ℕ) → I r → A cutPacket
     → (sound r ≡ false → A notSound) → (sound r ≡ true → I (recordAfter r (read1 (first p)))) → Does I A (packetUp r p)
 up-does I A r p h three eight after =
-    up-cases (Does I A) r p
+    up-cases (Does I A) (sound r) r p
     (record {
       refuses = λ _. refused-does I A voice2 p r h three;
       onward = λ _ _. h;
@@ -156,7 +156,7 @@ refused-four a t = rw (refusal a t [] (λ _. refl) .2) (omega arith)
 
 pub few-up : (r : Record) (p : List ℕ) → length p ≤ 4 → length (sentOf (packetUp r p)) ≤ 4
 few-up r p h =
-    up-cases UpToFour r p
+    up-cases UpToFour (sound r) r p
     (record {
       refuses = λ _. refused-four (screen voice2 p .answer) r;
       onward = λ _ _. h;
@@ -178,18 +178,18 @@ few-down p h =
     })
 
 -- without a packet nothing happens
-pub up-cut : (r : Record) → packetUp r [] ≡ stopped cutPacket
-unfolding packetUp screen screened refused
-up-cut r = refl
+pub up-cut : (ok : Bool) (r : Record) → packetIf ok r [] ≡ stopped cutPacket
+unfolding packetIf screen screened refused
+up-cut ok r = refl
 
 -- a MIDI 1.0 voice message by its one word
-pub packet-voice1 : (r : Record) (w : ℕ) → messageType w ≡ 2
-    → packetUp r (w ∷ []) ≡ screened (checkVoice1 w) r (speakUp r w)
-unfolding packetUp
-packet-voice1 r w h = rw (screen-voice1 w h, h)
+pub packet-voice1 : (ok : Bool) (r : Record) (w : ℕ) → messageType w ≡ 2
+    → packetIf ok r (w ∷ []) ≡ screened (checkVoice1 w) r (speakIf ok r w)
+unfolding packetIf
+packet-voice1 ok r w h = rw (screen-voice1 w h, h)
 
 -- The effect that is told is what becomes of the record, in an output of so much room.
-module _ (room : ℕ) (r : Record) (p : List ℕ) where
+module _ (room : ℕ) (ok : Bool) (r : Record) (p : List ℕ) where
   abbrev key : ℕ
   key = data1 (first p)
 
@@ -201,10 +201,10 @@ module _ (room : ℕ) (r : Record) (p : List ℕ) where
   unfolding effected
   stays a h c e l = rw (e, h, l)
 
-  pub effect-made : Made (fit room (packetUp r p))
+  pub effect-made : Made (fit room (packetIf ok r p))
   unfolding effected
   effect-made =
-      up-cases (λ (c : Call Record). Made (fit room c)) r p
+      up-cases (λ (c : Call Record). Made (fit room c)) ok r p
       (record {
         refuses = λ n.
             let a = screen voice2 p .answer in
@@ -235,26 +235,26 @@ first-of ws i =
     go w s = ⊎-elim (λ z. inl z) (λ h. inr (rw (h .0) (taken w s (size w) (size-range w)))) (packet-size w s)
 
 -- the effect of a packet, with its own key, is the record that its call leaves; where there is no packet, any key will do
-effect-left : (room : ℕ) (r : Record) (p : List ℕ) (k : ℕ) → (p ≡ []) ⊎ (data1 (first p) ≡ k)
-    → effected r (effectBy (effectAt p) (fit room (packetUp r p))) (leftOf (room, r) (fit room (packetUp r p)) .1 .memory) k
-    ≡ leftOf (room, r) (fit room (packetUp r p)) .1
+effect-left : (room : ℕ) (ok : Bool) (r : Record) (p : List ℕ) (k : ℕ) → (p ≡ []) ⊎ (data1 (first p) ≡ k)
+    → effected r (effectBy (effectAt p) (fit room (packetIf ok r p))) (leftOf (room, r) (fit room (packetIf ok r p)) .1 .memory) k
+    ≡ leftOf (room, r) (fit room (packetIf ok r p)) .1
 unfolding effected
-effect-left room r p k (inl z) = subst Leaves (sym z) none
+effect-left room ok r p k (inl z) = subst Leaves (sym z) none
   where
     Leaves : List ℕ → Type 0
     Leaves p =
-        effected r (effectBy (effectAt p) (fit room (packetUp r p))) (leftOf (room, r) (fit room (packetUp r p)) .1 .memory) k
-        ≡ leftOf (room, r) (fit room (packetUp r p)) .1
+        effected r (effectBy (effectAt p) (fit room (packetIf ok r p))) (leftOf (room, r) (fit room (packetIf ok r p)) .1 .memory) k
+        ≡ leftOf (room, r) (fit room (packetIf ok r p)) .1
 
     none : Leaves []
-    none = rw (up-cut r) refl
-effect-left room r p k (inr e) = rw (← e) (effect-made room r p)
+    none = rw (up-cut ok r) refl
+effect-left room ok r p k (inr e) = rw (← e) (effect-made room ok r p)
 
 -- so it is with the key that stands in the words
-pub effect-at : (room : ℕ) (r : Record) (ws : List ℕ) (i : ℕ) → let p = packet (drop i ws) in
-    effected r (effectBy (effectAt p) (fit room (packetUp r p))) (leftOf (room, r) (fit room (packetUp r p)) .1 .memory)
+pub effect-at : (room : ℕ) (ok : Bool) (r : Record) (ws : List ℕ) (i : ℕ) → let p = packet (drop i ws) in
+    effected r (effectBy (effectAt p) (fit room (packetIf ok r p))) (leftOf (room, r) (fit room (packetIf ok r p)) .1 .memory)
     (data1 (getD ws i 0))
-    ≡ leftOf (room, r) (fit room (packetUp r p)) .1
-effect-at room r ws i =
-    effect-left room r (packet (drop i ws)) (data1 (getD ws i 0))
+    ≡ leftOf (room, r) (fit room (packetIf ok r p)) .1
+effect-at room ok r ws i =
+    effect-left room ok r (packet (drop i ws)) (data1 (getD ws i 0))
     (⊎-elim (λ z. inl z) (λ e. inr (ap data1 e)) (first-of ws i))

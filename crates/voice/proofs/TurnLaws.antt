@@ -39,7 +39,7 @@ use Rattle.lower.specs.Values.{packed, wordsIn}
 use Rattle.lower.proofs.LowerLaws.{lower-few}
 use Rattle.voice.specs.declared.EffectAndReport.{EffectAndReport}
 use Rattle.voice.specs.Output.{sentWords}
-use Rattle.voice.specs.Packet.{effectAt, onwardOf, packetDown, packetUp, sending, sendingDown, speakDown, speakUp, spoken, voiceDown}
+use Rattle.voice.specs.Packet.{effectAt, onwardOf, packetDown, packetIf, sending, sendingDown, speakDown, speakIf, spoken, voiceDown}
 use Rattle.voice.specs.Turn.{effectBy, inRoom, next, outputAfter, outputOf, reportAfter, reportOf, turned}
 use Rattle.voice.proofs.PacketLaws.{packet-voice1}
 
@@ -191,11 +191,11 @@ module _ (d : Done) (p out : List ℕ) (r : Record) where
       go true = rw (same-either (leb a takenIn)) (refl, refl)
       go false = rw (same-either (leb a takenIn)) (refl, refl)
 
-  pub onward-turn : eqb (messageType (first p)) voice1 ≡ false
-      → (record { after = r .memory; effect = leaves; done = reportOf d p out (onwardOf voice2 p) } ≡ turned d p out r (effectAt p) (packetUp r p))
-      × (outputOf d out (onwardOf voice2 p) ≡ outputOf d out (packetUp r p))
-  unfolding packetUp
-  onward-turn n = rw n (go (eqb (s .answer) goesOn) refl)
+  pub onward-turn : (ok : Bool) → eqb (messageType (first p)) voice1 ≡ false
+      → (record { after = r .memory; effect = leaves; done = reportOf d p out (onwardOf voice2 p) } ≡ turned d p out r (effectAt p) (packetIf ok r p))
+      × (outputOf d out (onwardOf voice2 p) ≡ outputOf d out (packetIf ok r p))
+  unfolding packetIf
+  onward-turn ok n = rw n (go (eqb (s .answer) goesOn) refl)
     where
       s : Screened
       s = screen voice2 p
@@ -275,35 +275,35 @@ next-few (w ∷ s) =
     ⊎-elim (λ z. rw z (omega arith)) (λ h. rw (h .0) (omega (arith, length-take (size w) (w ∷ s), size-range w))) (packet-size w s)
 
 -- a message whose record is sound, and one whose record is not
-pub speaks-sound : (r : Record) (w : ℕ) → sound r ≡ true → speakUp r w ≡ spoken r w
-unfolding speakUp
-speaks-sound r w h = rw h
+pub speaks-sound : (ok : Bool) (r : Record) (w : ℕ) → ok ≡ true → speakIf ok r w ≡ spoken r w
+unfolding speakIf
+speaks-sound ok r w h = rw h
 
-pub speaks-unsound : (d : Done) (w : ℕ) (r : Record) (out : List ℕ) → sound r ≡ false
+pub speaks-unsound : (ok : Bool) (d : Done) (w : ℕ) (r : Record) (out : List ℕ) → ok ≡ false
     → (record { after = r .memory; effect = leaves; done = counting notSound (d .read) (d .written) }
-    ≡ turned d (w ∷ []) out r (effectOf (read1 w)) (speakUp r w))
-    × (out ≡ outputOf d out (speakUp r w))
-unfolding speakUp
-speaks-unsound d w r out h = (rw (h, add-zero (d .read), add-zero (d .written)), rw h (sym (written-none (d .written) out)))
+    ≡ turned d (w ∷ []) out r (effectOf (read1 w)) (speakIf ok r w))
+    × (out ≡ outputOf d out (speakIf ok r w))
+unfolding speakIf
+speaks-unsound ok d w r out h = (rw (h, add-zero (d .read), add-zero (d .written)), rw h (sym (written-none (d .written) out)))
 
 -- a MIDI 1.0 voice message that the check refuses
-pub check-refused : (d : Done) (w : ℕ) (r : Record) (out : List ℕ) (s : Screened) → messageType w ≡ voice1 → s ≡ checkVoice1 w
+pub check-refused : (ok : Bool) (d : Done) (w : ℕ) (r : Record) (out : List ℕ) (s : Screened) → messageType w ≡ voice1 → s ≡ checkVoice1 w
     → (s .answer ≡ goesOn → ⊥)
     → (record { after = r .memory; effect = leaves; done = placing (s .answer) (s .place) (d .read + 1) (d .written) }
-    ≡ turned d (w ∷ []) out r (effectOf (read1 w)) (screened (checkVoice1 w) r (speakUp r w)))
-    × (out ≡ outputOf d out (screened (checkVoice1 w) r (speakUp r w)))
-check-refused d w r out s v e n =
+    ≡ turned d (w ∷ []) out r (effectOf (read1 w)) (screened (checkVoice1 w) r (speakIf ok r w)))
+    × (out ≡ outputOf d out (screened (checkVoice1 w) r (speakIf ok r w)))
+check-refused ok d w r out s v e n =
     let f : checkVoice1 w .answer ≡ goesOn → ⊥ = λ z. n (ap (λ (x : Screened). x .answer) e ∙ z) in
     let no-packet : stopsRun (checkVoice1 w .answer) ≡ true → (w ∷ []) ≡ [] = λ k. not-both (sym (check-goes-on w) ∙ k) in
-    rw (e, refuses (checkVoice1 w) r (speakUp r w) f, check-place w v) (
+    rw (e, refuses (checkVoice1 w) r (speakIf ok r w) f, check-place w v) (
       refused-turn d (w ∷ []) out r (effectOf (read1 w)) (checkVoice1 w .answer) no-packet (check-above w f),
       refused-output d (w ∷ []) out r (checkVoice1 w .answer) no-packet,
     )
 
 -- and the packet that is one
-pub voice-turn : (d : Done) (ws out : List ℕ) (r : Record) (x : EffectAndReport) (o : List ℕ) → messageType (getD ws (d .read) 0) ≡ voice1
+pub voice-turn : (ok : Bool) (d : Done) (ws out : List ℕ) (r : Record) (x : EffectAndReport) (o : List ℕ) → messageType (getD ws (d .read) 0) ≡ voice1
     → let w = getD ws (d .read) 0 in
-    let c = screened (checkVoice1 w) r (speakUp r w) in
+    let c = screened (checkVoice1 w) r (speakIf ok r w) in
     (x ≡ turned d (w ∷ []) out r (effectOf (read1 w)) c) × (o ≡ outputOf d out c)
-    → let p = next ws d in (x ≡ turned d p out r (effectAt p) (packetUp r p)) × (o ≡ outputOf d out (packetUp r p))
-voice-turn d ws out r x o e h = rw (voice-packet ws (d .read) e, packet-voice1 r (getD ws (d .read) 0) e, e) h
+    → let p = next ws d in (x ≡ turned d p out r (effectAt p) (packetIf ok r p)) × (o ≡ outputOf d out (packetIf ok r p))
+voice-turn ok d ws out r x o e h = rw (voice-packet ws (d .read) e, packet-voice1 ok r (getD ws (d .read) 0) e, e) h

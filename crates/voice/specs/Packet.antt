@@ -1,6 +1,6 @@
 -- One packet up with its record, and one packet down: cut, type, check, act (RULES 3, 6 and 8).
 use Prim.Native.Nat.{ℕ}
-use mathlib.Core.Bool.{cond}
+use mathlib.Core.Bool.{Bool, false, cond, _||_}
 use mathlib.Core.Option.{Option, none, some}
 use mathlib.Core.List.{List, [], _∷_, map}
 use lib.Dec.{eqb}
@@ -29,9 +29,9 @@ sending g c r (some m) = went sent (write2 g c m) r
 abbrev pub spoken : Record → ℕ → Call Record
 spoken r w = sending (groupOf w) (channelOf w) (recordAfter r (read1 w)) (lift (r .memory) (read1 w) .sends)
 
--- a checked MIDI 1.0 voice message acts with its record, if that is sound
-unfoldable pub speakUp : Record → ℕ → Call Record
-speakUp r w = cond (sound r) (spoken r w) (stopped notSound)
+-- a checked MIDI 1.0 voice message acts with its record, if that is sound, which `ok` says
+unfoldable pub speakIf : Bool → Record → ℕ → Call Record
+speakIf ok r w = cond ok (spoken r w) (stopped notSound)
 
 -- what a MIDI 2.0 message becomes, unless it has no form
 abbrev pub sendingDown : Group → Channel → List Midi1 → Call (Unit {0})
@@ -45,15 +45,18 @@ abbrev pub voiceDown : List ℕ → Call (Unit {0})
 voiceDown p = speakDown (first p) (second p)
 
 -- the act of a packet that has been screened: voice messages are translated, and all others are sent on unchanged
-abbrev pub actUp : Record → List ℕ → Call Record
-actUp r p = cond (eqb (messageType (first p)) voice1) (speakUp r (first p)) (went sent p r)
+abbrev pub actIf : Bool → Record → List ℕ → Call Record
+actIf ok r p = cond (eqb (messageType (first p)) voice1) (speakIf ok r (first p)) (went sent p r)
 
 abbrev pub actDown : List ℕ → Call (Unit {0})
 actDown p = cond (eqb (messageType (first p)) voice2) (voiceDown p) (went sent p tt)
 
 -- What a packet does, going up with its own record; and going down, where no record is needed.
-unfoldable pub packetUp : Record → List ℕ → Call Record
-packetUp r p = screened (screen voice2 p) r (actUp r p)
+unfoldable pub packetIf : Bool → Record → List ℕ → Call Record
+packetIf ok r p = screened (screen voice2 p) r (actIf ok r p)
+
+abbrev pub packetUp : Record → List ℕ → Call Record
+packetUp r p = packetIf (sound r) r p
 
 unfoldable pub packetDown : List ℕ → Call (Unit {0})
 packetDown p = screened (screen voice1 p) tt (actDown p)
@@ -66,9 +69,13 @@ onwardOf wrong p = screened (screen wrong p) tt (went sent p tt)
 abbrev pub effectAt : List ℕ → ℕ
 effectAt p = cond (eqb (messageType (first p)) voice1) (effectOf (read1 (first p))) leaves
 
--- One call: the packet that stands first in the words left.
-unfoldable pub callUp : Record → List ℕ → Call Record
-callUp r s = packetUp r (packet s)
+-- One call: the packet that stands first in the words left. Soundness is asked of its record, unless that is known to
+-- be sound (02 M-111).
+unfoldable pub callBy : Bool → Record → List ℕ → Call Record
+callBy known r s = packetIf (known || sound r) r (packet s)
+
+abbrev pub callUp : Record → List ℕ → Call Record
+callUp = callBy false
 
 unfoldable pub callDown : Unit {0} → List ℕ → Call (Unit {0})
 callDown t s = packetDown (packet s)

@@ -17,14 +17,16 @@ use stream::report;
 use ump::MIDI1_VOICE;
 use ump::MIDI2_VOICE;
 ghost use mathlib.Core.Path.{_≡_};
+ghost use mathlib.Core.Bool.{_||_};
 ghost use mathlib.Core.List.{[], _∷_};
 ghost use Prim.Native.Nat.{_+_, _<_, _^_};
 ghost use Rattle.ump.specs.Word.{messageType, voice1};
 ghost use Rattle.screen.specs.Screen.{checkVoice1, screened};
+ghost use Rattle.channel.specs.Record.{sound};
 ghost use Rattle.message.specs.Message.{read1};
 ghost use Rattle.effect.specs.Effect.{leaves};
 ghost use Rattle.lift.specs.Lift.{effectOf};
-ghost use Rattle.voice.specs.Packet.{effectAt, packetUp, speakUp, spoken};
+ghost use Rattle.voice.specs.Packet.{effectAt, packetIf, speakIf, spoken};
 ghost use Rattle.voice.specs.Turn.{next, outputOf, turned};
 
 // The record stays.
@@ -74,14 +76,22 @@ fn speak(past: Done, record: Record, w: u32, out: &mut [u32]) -> EffectAndReport
     }
 }
 
-// A checked message with its record, which is asked to be sound.
-fn speak_up(past: Done, record: Record, w: u32, out: &mut [u32]) -> EffectAndReport
-    requires { ⌜ past .read + 1 < 2 ^ 64 ⌝ }
-    ensures turn { λ r. ⌜ r
-        ≡ turned past (w ∷ []) (now (out .entry)) «record» (effectOf (read1 w)) (speakUp «record» w) ⌝ }
-    ensures output { λ _. ⌜ now (out .exit) ≡ outputOf past (now (out .entry)) (speakUp «record» w) ⌝ }
+// A record that is known to be sound is not asked.
+fn is_found_sound(known: bool, record: Record) -> bool
+    ensures { λ r. ⌜ r ≡ (known || sound «record») ⌝ }
 {
-    if record.is_sound() {
+    if known { true } else { record.is_sound() }
+}
+
+// A checked message with its record, which has to be sound.
+fn speak_up(past: Done, record: Record, known: bool, w: u32, out: &mut [u32]) -> EffectAndReport
+    requires { ⌜ past .read + 1 < 2 ^ 64 ⌝ }
+    ensures turn { λ r. ⌜ r ≡ turned past (w ∷ []) (now (out .entry)) «record» (effectOf (read1 w))
+        (speakIf (known || sound «record») «record» w) ⌝ }
+    ensures output { λ _. ⌜ now (out .exit)
+        ≡ outputOf past (now (out .entry)) (speakIf (known || sound «record») «record» w) ⌝ }
+{
+    if is_found_sound(known, record) {
         speak(past, record, w, out)
     } else {
         stays(record, report(NOT_SOUND, past.read, past.written))
@@ -89,32 +99,39 @@ fn speak_up(past: Done, record: Record, w: u32, out: &mut [u32]) -> EffectAndRep
 }
 
 // A MIDI 1.0 voice message, by its one word.
-fn voice_up(past: Done, record: Record, w: u32, out: &mut [u32]) -> EffectAndReport
+fn voice_up(past: Done, record: Record, known: bool, w: u32, out: &mut [u32]) -> EffectAndReport
     requires { ⌜ (past .read + 1 < 2 ^ 64) × (messageType w ≡ voice1) ⌝ }
     ensures turn { λ r. ⌜ r ≡ turned past (w ∷ []) (now (out .entry)) «record» (effectOf (read1 w))
-        (screened (checkVoice1 w) «record» (speakUp «record» w)) ⌝ }
+        (screened (checkVoice1 w) «record» (speakIf (known || sound «record») «record» w)) ⌝ }
     ensures output { λ _. ⌜ now (out .exit) ≡ outputOf past (now (out .entry))
-        (screened (checkVoice1 w) «record» (speakUp «record» w)) ⌝ }
+        (screened (checkVoice1 w) «record» (speakIf (known || sound «record») «record» w)) ⌝ }
 {
     let screened = screen::check_voice1(w);
     if screened.answer == GOES_ON {
-        speak_up(past, record, w, out)
+        speak_up(past, record, known, w, out)
     } else {
         stays(record, refuse(past, screened, 1))
     }
 }
 
-// The packet that is next in the words, with its record.
-pub fn up(words: &[u32], past: Done, record: Record, out: &mut [u32]) -> EffectAndReport
+// The packet that is next in the words, with its record, and whether that is known to be sound.
+pub fn up(
+    words: &[u32],
+    past: Done,
+    record: Record,
+    known: bool,
+    out: &mut [u32],
+) -> EffectAndReport
     ensures turn { λ r. ⌜ r ≡ turned past (next (now (words .entry)) past) (now (out .entry)) «record»
-        (effectAt (next (now (words .entry)) past)) (packetUp «record» (next (now (words .entry)) past)) ⌝ }
-    ensures output { λ _. ⌜ now (out .exit)
-        ≡ outputOf past (now (out .entry)) (packetUp «record» (next (now (words .entry)) past)) ⌝ }
+        (effectAt (next (now (words .entry)) past))
+        (packetIf (known || sound «record») «record» (next (now (words .entry)) past)) ⌝ }
+    ensures output { λ _. ⌜ now (out .exit) ≡ outputOf past (now (out .entry))
+        (packetIf (known || sound «record») «record» (next (now (words .entry)) past)) ⌝ }
 {
     let at = past.read;
     let w = ump::word_at(words, at);
     if ump::message_type(w) == MIDI1_VOICE {
-        voice_up(past, record, w, out)
+        voice_up(past, record, known, w, out)
     } else {
         let done = onward(MIDI2_VOICE, past, ump::packet_at(words, at), out);
         stays(record, done)

@@ -8,13 +8,13 @@ use Rattle.memory.specs.Memory.{kept, sound, withDataHigh}
 use Rattle.message.specs.Message.{bankOf, first2, read1, read2, second2, write1}
 use Rattle.lift.specs.Lift.{addressed2, banked2, controlOf, controlled, dataHigh, dataLow, lift}
 use Rattle.lower.specs.Lower.{lower, sounding}
-use Rattle.voice.specs.Packet.{callDown, callUp, packetDown, packetUp, speakDown, speakUp}
+use Rattle.voice.specs.Packet.{callBy, callDown, packetDown, packetIf, speakDown, speakIf}
 use Rattle.examples.specs.Examples.{Examples, examples, goingDown, goingUp}
 use Rattle.examples.proofs.examples.Statement.{statement}
 use Rattle.examples.proofs.examples.Tie as tie
 
 returns : tie.Need-returns
-unfolding fill up packet size checkedFields badPlace goodStatus voice1Fields voice2Fields screen screened kept sound withDataHigh bankOf first2 read1 read2 second2 write1 addressed2 banked2 controlOf controlled dataHigh dataLow lift lower sounding callDown callUp packetDown packetUp speakDown speakUp Examples examples goingDown goingUp
+unfolding fill up packet size checkedFields badPlace goodStatus voice1Fields voice2Fields screen screened kept sound withDataHigh bankOf first2 read1 read2 second2 write1 addressed2 banked2 controlOf controlled dataHigh dataLow lift lower sounding callDown callBy packetDown packetIf speakDown speakIf Examples examples goingDown goingUp
 returns c = refl
 
 pub examples-spec : {M : Type 1} → statement M

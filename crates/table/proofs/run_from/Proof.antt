@@ -1,6 +1,6 @@
 -- `table::run_from` meets its contract: a walk of its MIR. The local table is lent for a lifetime that is made for the call of `treat`, and comes back with the slice's last values; the output is given up for good.
 -- Assumes nothing.
-use Rattle.ground.proofs.Walk.{_≡_, refl, sym, subst, ℕ, [], _∷_, List, length, Holds, lit<, URA, fullShare, named, erased, Val, WT, hasTy, SProp, ent, emp, guard, via, fst∗, id⊢, ∗emp, Lft, Share, GName, Fml, ftrue, fsep, fat, flft, Memory, Routine, Heap, Calls, Loops, WpFn, Tables, Atoms, Fun, givenOf, tables, tablesOf, Given, ‵, raw, given, some, later, _⊛_, ⋆, _$_, _∵_, !, qed, by, move, keep, drop, use0, use1, use2, use3, split, join, pick, learn, rewrite, fsplit, fjoin, suffices, frame, await, done, look, init, forget, stop, hop, fld, from, load, lit, addr, of-opd, and-then, no-more, assigns, land, returns, enter, alloc1, alloc0, params1, pass1, pass0, free1, free0, agg, whole, sub, look-in, lft-new, lft-end, FmC, fmOf, WpFn-mono, owns, Is, shows, u32, RefT, sliceVal, MutSlice, ShrSlice, Room, slice-vals, mut-slice-tells, shr-slice-tells, shr-slice-copy, finally, Held, peeks, owned, nothing, onEntry, Meets, tripleOf, Contract, Triple, calls-at, Stays, stay-none-slice, gave-slice, walkOf, goes-none-slice, goes-gave-slice, Walks, ends-at, walked, walk-meets, entered, cited, yes, plain}
+use Rattle.ground.proofs.Walk.{_≡_, refl, sym, subst, ℕ, [], _∷_, List, length, Holds, lit<, URA, fullShare, named, erased, Val, WT, hasTy, SProp, ent, emp, guard, via, fst∗, id⊢, ∗emp, Lft, Share, GName, Fml, ftrue, fsep, fat, flft, Memory, Routine, Heap, Calls, Loops, WpFn, Tables, Atoms, Fun, givenOf, tables, tablesOf, Given, ‵, raw, given, some, later, _⊛_, ⋆, _$_, _∵_, !, qed, by, move, keep, drop, use0, use1, use2, use3, split, join, pick, learn, rewrite, fsplit, fjoin, suffices, frame, await, done, look, init, forget, stop, hop, fld, from, load, lit, addr, of-opd, and-then, no-more, assigns, land, returns, enter, alloc1, alloc0, params1, pass1, pass0, free1, free0, agg, whole, sub, look-in, lft-new, lft-end, FmC, fmOf, WpFn-mono, owns, Is, shows, u32, RefT, sliceVal, MutSlice, ShrSlice, Room, slice-vals, mut-slice-tells, shr-slice-tells, shr-slice-copy, finally, Held, peeks, owned, nothing, onEntry, Meets, tripleOf, Contract, Triple, calls-at, Stays, stay-none, stay-none-slice, gave-slice, walkOf, goes-none, goes-none-slice, goes-gave-slice, Walks, ends-at, walked, walk-meets, entered, cited, yes, plain}
 use mir.Syntax.{Ty, tyArray}
 use base.Fml.{flent}
 use denote.Array.{Array, array-vals, array-tells}
@@ -11,31 +11,25 @@ use Rattle.channel.proofs.Record.Laws as TR′
 use Rattle.stream.specs.declared.Done.{Done}
 use Rattle.stream.proofs.Done.Laws as TD′
 use Rattle.ground.specs.Store.{atStart}
-use Rattle.stream.specs.Report.{reported}
 use Rattle.stream.specs.Run.{Ran}
 use Rattle.table.specs.declared.TableAndReport.{TableAndReport}
-use Rattle.table.specs.Table.{runUp, tableAfter}
-use Rattle.table.specs.Job.{asked, tableStep, wholeRun}
-use Rattle.table.proofs.Job.Laws as TJ′
-use Rattle.table.proofs.Values.{R, valsR, tellsR, J, valJ, valsJ, tellsJ, typedJ, D, valD, valsD, typedD, U, valArray, valOf, typedArray, table-is, typedU, madeU, tyTable}
+use Rattle.table.specs.declared.Job.{Job}
+use Rattle.table.specs.Table.{tableAfter}
+use Rattle.table.specs.Job.{asked, askedReport}
+use Rattle.table.proofs.Values.{R, valsR, tellsR, J, valJ, valsJ, tellsJ, typedJ, madeJ, D, valD, valsD, typedD, U, valArray, valOf, typedArray, table-is, typedU, madeU, tyTable}
 use Rattle.ground.proofs.More.{says3, use6}
 use Rattle.table.proofs.Calls.{Treat, to-treat, treat-pre, treat-post}
-use Rattle.ground.proofs.Post.{result-is}
 use Rattle.table.proofs.ArrayLent.{lends-array, array-back}
 use Rattle.table.proofs.treat.Symbol as treat-def
 use Rattle.table.proofs.treat.Symbol.{name as #table·treat}
 use Rattle.table.proofs.treat.Met as treat-thm
-use Rattle.table.proofs.whole_run as make
-use Rattle.table.proofs.whole_run.Symbol as make-def
-use Rattle.table.proofs.whole_run.Symbol.{name as #table·whole-run}
-use Rattle.table.proofs.whole_run.Met as make-thm
 use Rattle.table.proofs.run_from.Key.{name as #table·run-from}
 use Rattle.table.proofs.run_from as go
 use Rattle.table.proofs.run_from.Statement as stated
 use Rattle.table.proofs.run_from.Code as code
 
 abbrev stayed : Stays (go.ended .signature .params) (go.ended .kept)
-stayed = (stay-dropped (arrayOf (plain (λ _. R)) 256) yes, (stay-none-slice (0 ∷ []) tt (plain (λ _. u32)) yes, (gave-slice (1 ∷ []) tt (plain (λ _. u32)), tt)))
+stayed = (stay-dropped (arrayOf (plain (λ _. R)) 256) yes, (stay-none-slice (0 ∷ []) tt (plain (λ _. u32)) yes, (gave-slice (1 ∷ []) tt (plain (λ _. u32)), (stay-none (λ _. J) yes, tt))))
 
 abbrev tyArr : Ty
 tyArr = tyArray TR′.mir 256
@@ -43,35 +37,16 @@ tyArr = tyArray TR′.mir 256
 room-of : (tb : List Record) → length tb ≡ 256 → Room R (length tb)
 room-of tb e = subst (Room R) (sym e) (lit< tt, lit< tt)
 
--- the run that `treat` was asked for is the run that is promised
-run-said : (ws : List ℕ) (tb : List Record) (out : List ℕ) → let a = asked wholeRun (length out) tb ws in let b = runUp (length out) tb ws in
-    (reported a ≡ reported b) × (tableAfter a ≡ tableAfter b) × (atStart (a .sends) out ≡ atStart (b .sends) out)
-unfolding asked tableStep runUp
-run-said ws tb out = (refl, refl, refl)
-
-module _ {M : Type 1} (𝓤 : URA M) (H : Heap 𝓤) (A : Atoms 𝓤) (W : Given 𝓤 H A) (at-mem : Memory → SProp 𝓤) (run : Routine → Fun 𝓤) where
-  abbrev Make : Contract 𝓤
-  Make = tripleOf 𝓤 H A make.signature (make.spec 𝓤 H A at-mem run)
-
-  abbrev to-make : Make .Ghost
-  to-make = ((tt, tt, tt, tt, tt), tt)
-
-  make-pre : ent 𝓤 (emp 𝓤) (Make .pre to-make)
-  make-pre = qed W [] ∵ suffices ! _ (∗emp 𝓤 _) $ nothing ! $ frame ! $ done !
-
-  make-post : (v : Val) → ent 𝓤 (Make .post to-make v) (H .⇛ (guard 𝓤 ((v ≡ valJ wholeRun) × Is J wholeRun (valsJ wholeRun)) (emp 𝓤)))
-  make-post = result-is 𝓤 H A W make.ended (make.clauses 𝓤 H A at-mem run) (to-make .0) tt valsJ tellsJ wholeRun (λ r ws. id⊢ 𝓤 _)
-
-module _ {M : Type 1} (𝓤 : URA M) (H : Heap 𝓤) (A : Atoms 𝓤) (W : Given 𝓤 H A) (at-mem : Memory → SProp 𝓤) (run : Routine → Fun 𝓤) (κ₀ κ₂ : Lft) (q₀ q₂ : Share) (tb : List Record) (w y : RefT (List ℕ))
-    (is-tb : Is (Array R 256) tb (array-vals valsR tb)) (room₀ : Room u32 (length (w .now))) (room₂ : Room u32 (length (y .now))) where
+module _ {M : Type 1} (𝓤 : URA M) (H : Heap 𝓤) (A : Atoms 𝓤) (W : Given 𝓤 H A) (at-mem : Memory → SProp 𝓤) (run : Routine → Fun 𝓤) (κ₀ κ₂ : Lft) (q₀ q₂ : Share) (tb : List Record) (w y : RefT (List ℕ)) (j : Job)
+    (is-tb : Is (Array R 256) tb (array-vals valsR tb)) (room₀ : Room u32 (length (w .now))) (room₂ : Room u32 (length (y .now))) (is-j : Is J j (valsJ j)) where
   abbrev Arg : Type 0
-  Arg = List Record × (RefT (List ℕ) × (RefT (List ℕ) × Unit {0}))
+  Arg = List Record × (RefT (List ℕ) × (RefT (List ℕ) × (Job × Unit {0})))
 
   abbrev a : Arg
-  a = (tb, (w, (y, tt)))
+  a = (tb, (w, (y, (j, tt))))
 
-  abbrev at : List Val × (List Val × (List Val × Unit {0}))
-  at = (array-vals valsR tb, (slice-vals w, (slice-vals y, tt)))
+  abbrev at : List Val × (List Val × (List Val × (List Val × Unit {0})))
+  at = (array-vals valsR tb, (slice-vals w, (slice-vals y, (valsJ j, tt))))
 
   abbrev Bound : walkOf 𝓤 H A go.ended stayed (go.clauses 𝓤 H A at-mem run) .Ghost
   Bound = (((κ₀, (κ₂, tt)), (q₀, (q₂, tt)), tt, a, at), tt)
@@ -87,10 +62,10 @@ module _ {M : Type 1} (𝓤 : URA M) (H : Heap 𝓤) (A : Atoms 𝓤) (W : Given
 
   -- what `treat` leaves
   abbrev asked-for : Ran (ℕ × List Record)
-  asked-for = asked wholeRun (length (y .now)) tb (w .now)
+  asked-for = asked j (length (y .now)) tb (w .now)
 
   abbrev r′ : Done
-  r′ = reported asked-for
+  r′ = askedReport j (w .now) asked-for
 
   abbrev zs′ : List Record
   zs′ = tableAfter asked-for
@@ -105,58 +80,54 @@ module _ {M : Type 1} (𝓤 : URA M) (H : Heap 𝓤) (A : Atoms 𝓤) (W : Given
       → ent 𝓤 (⋆ 𝓤 H A (‵ (flft κ₀ q₀) ∷ ‵ (flft κ₂ q₂) ∷ ‵ Own₀ ∷ ‵ (finally u32 (y .name) os′) ∷ [])) (Post (valOf (valArray zs′) r′))
   exits is-u l =
       qed W (‵ (flft κ₀ q₀) ∷ ‵ (flft κ₂ q₂) ∷ ‵ Own₀ ∷ ‵ (finally u32 (y .name) os′) ∷ []) ∵
-      suffices ! _ (ends-at 𝓤 H A go.ended stayed (go.clauses 𝓤 H A at-mem run) W Bound (valOf (valArray zs′) r′) u′ (tt, (tt, (os′, tt))) (tt, (tt, (l, tt)))) $
-      says3 ! (run-said (w .now) tb (y .now)) $
+      suffices ! _ (ends-at 𝓤 H A go.ended stayed (go.clauses 𝓤 H A at-mem run) W Bound (valOf (valArray zs′) r′) u′ (tt, (tt, (os′, (tt, tt)))) (tt, (tt, (l, (tt, tt))))) $
+      says3 ! (refl, refl, refl) $
       nothing ! $ move ! (2 ∷ 0 ∷ []) $ join ! $ move ! (1 ∷ 0 ∷ []) $ join ! $ frame ! $
-      nothing ! $ move ! (2 ∷ 0 ∷ []) $ fjoin ! $ move ! (1 ∷ 0 ∷ []) $ fjoin ! $ nothing ! $ fjoin ! $ frame ! $ owned ! U (Is U) (madeU 𝓤 H A W) u′ _ is-u $ done !
+      nothing ! $ owned ! J (Is J) (madeJ 𝓤 H A W) j _ is-j $ fjoin ! $ move ! (2 ∷ 0 ∷ []) $ fjoin ! $ move ! (1 ∷ 0 ∷ []) $ fjoin ! $ nothing ! $ fjoin ! $ frame ! $ owned ! U (Is U) (madeU 𝓤 H A W) u′ _ is-u $ done !
 
-  module _ (C : Calls 𝓤 H) (Λ : Loops 𝓤 H) (fm : FmC 𝓤 H (W .laws) C) (known-treat : Triple 𝓤 (C #table·treat) (Treat 𝓤 H A W at-mem run)) (known-make : Triple 𝓤 (C #table·whole-run) (Make 𝓤 H A W at-mem run)) where
-    walk : ent 𝓤 (onEntry 𝓤 H A go.signature (κ₀, (κ₂, tt)) (q₀, (q₂, tt)) a at) (WpFn 𝓤 H C Λ code.function (valArray tb ∷ sliceVal (w .ptr) (length (w .now)) ∷ sliceVal (y .ptr) (length (y .now)) ∷ []) Post)
+  module _ (C : Calls 𝓤 H) (Λ : Loops 𝓤 H) (fm : FmC 𝓤 H (W .laws) C) (known-treat : Triple 𝓤 (C #table·treat) (Treat 𝓤 H A W at-mem run)) where
+    walk : ent 𝓤 (onEntry 𝓤 H A go.signature (κ₀, (κ₂, tt)) (q₀, (q₂, tt)) a at) (WpFn 𝓤 H C Λ code.function (valArray tb ∷ sliceVal (w .ptr) (length (w .now)) ∷ sliceVal (y .ptr) (length (y .now)) ∷ valJ j ∷ []) Post)
     walk =
-        qed W ((‵ (flft κ₀ q₀) ⊛ ‵ (flft κ₂ q₂) ⊛ ‵ ftrue) ∷ ‵ (owns (Array R 256 ∷ ShrSlice (named 0) κ₀ u32 ∷ MutSlice (named 1) κ₂ u32 ∷ []) a at) ∷ []) ∵
-        enter ! C Λ code.function (valArray tb ∷ sliceVal (w .ptr) (length (w .now)) ∷ sliceVal (y .ptr) (length (y .now)) ∷ []) _ $
+        qed W ((‵ (flft κ₀ q₀) ⊛ ‵ (flft κ₂ q₂) ⊛ ‵ ftrue) ∷ ‵ (owns (Array R 256 ∷ ShrSlice (named 0) κ₀ u32 ∷ MutSlice (named 1) κ₂ u32 ∷ J ∷ []) a at) ∷ []) ∵
+        enter ! C Λ code.function (valArray tb ∷ sliceVal (w .ptr) (length (w .now)) ∷ sliceVal (y .ptr) (length (y .now)) ∷ valJ j ∷ []) _ $
         alloc1 ! (λ l0. alloc1 ! (λ l1. alloc1 ! (λ l2. alloc1 ! (λ l3. alloc1 ! (λ l4. alloc1 ! (λ l5. alloc1 ! (λ l6. alloc1 ! (λ l7. alloc1 ! (λ l8. alloc1 ! (λ l9. alloc1 ! (λ l10. alloc1 ! (λ l11. alloc0 ! $ params1 ! $
-        pass1 ! (init ! 20 refl (typedArray 𝓤 H A W tb _ is-tb)) $ pass1 ! (init ! 18 refl (tt, (tt, (record { fits = room₀ .0 }, tt)))) $ pass1 ! (init ! 16 refl (tt, (tt, (record { fits = room₂ .0 }, tt)))) $ pass0 ! $ move ! (25 ∷ []) $ fsplit ! $ move ! (1 ∷ []) $
-        fsplit ! $ move ! (1 ∷ []) $ fsplit ! $ move ! (28 ∷ []) $ split ! $ move ! (1 ∷ []) $ split ! $ assigns ! (of-opd ! (load ! (from ! (stop !)) (look ! 27 refl))) (from ! (stop !)) (init ! 21 refl (typedArray 𝓤 H A W tb _ is-tb)) $
-        -- what `treat` is told
-        use0 W (raw (Make 𝓤 H A W at-mem run .pre (to-make 𝓤 H A W at-mem run))) (make-pre 𝓤 H A W at-mem run) $ calls-at ! fm (Make 𝓤 H A W at-mem run) known-make (to-make 𝓤 H A W at-mem run) (no-more !) (λ v.
-        use1 W (later (given ((v ≡ valJ wholeRun) × Is J wholeRun (valsJ wholeRun)) (‵ ftrue))) (make-post 𝓤 H A W at-mem run v) $ await ! tt $ learn ! (λ d. drop ! $
-        land ! (from ! (stop !)) (init ! 17 refl (subst (λ (z : Val). Holds (hasTy TJ′.mir z) × WT z) (sym (d .0)) (typedJ 𝓤 H A W wholeRun (d .1)))) $ rewrite ! 17 (λ (z : Val). ‵ (fat fullShare TJ′.mir l6 0 z)) (d .0) refl $
+        pass1 ! (init ! 20 refl (typedArray 𝓤 H A W tb _ is-tb)) $ pass1 ! (init ! 18 refl (tt, (tt, (record { fits = room₀ .0 }, tt)))) $ pass1 ! (init ! 16 refl (tt, (tt, (record { fits = room₂ .0 }, tt)))) $ pass1 ! (init ! 14 refl (typedJ 𝓤 H A W j is-j)) $ pass0 ! $ move ! (25 ∷ []) $ fsplit ! $ move ! (1 ∷ []) $
+        fsplit ! $ move ! (1 ∷ []) $ fsplit ! $ move ! (28 ∷ []) $ split ! $ move ! (1 ∷ []) $ split ! $ assigns ! (of-opd ! (load ! (from ! (stop !)) (look ! 27 refl))) (from ! (stop !)) (init ! 19 refl (typedArray 𝓤 H A W tb _ is-tb)) $
         assigns ! (addr ! (from ! (stop !))) (from ! (stop !)) (init ! 15 refl (tt, tt)) $
         assigns ! (agg ! (and-then ! (load ! (from ! (stop !)) (look ! 15 refl)) (and-then ! (lit ! tt) (no-more !)))) (from ! (stop !)) (init ! 13 refl (tt, (tt, (record { fits = lit< tt }, tt)))) $
         assigns ! (addr ! (from ! (fld ! refl (hop ! (look-in ! 23 (sub ! 0 refl (whole !))) (stop !))))) (from ! (stop !)) (init ! 11 refl (tt, tt)) $
         assigns ! (agg ! (and-then ! (load ! (from ! (stop !)) (look ! 11 refl)) (and-then ! (load ! (from ! (fld ! refl (stop !))) (look-in ! 23 (sub ! 1 refl (whole !)))) (no-more !)))) (from ! (stop !)) (init ! 9 refl (tt, (tt, (record { fits = room₂ .0 }, tt)))) $
         -- the array is lent for a lifetime of its own
-        lft-new ! tt (λ α. move ! (22 ∷ 7 ∷ []) $
-        use2 W (later (some (λ (δ : GName). ‵ (MutSlice (named 1) (α ∷ []) R .own (x₁ δ l4) (sliceVal (l4, 0) (length tb) ∷ [])) ⊛ ‵ (flent (α ∷ []) (Held R (length tb) l4 0 δ))))) (lends-array 𝓤 H A W 256 l4 (named 1) (α ∷ []) tb (valArray tb) (room-of tb (is-tb .1 .0 .1))) $ await ! tt $ pick ! (λ δ. split ! $
-        move ! (8 ∷ []) $ use1 W (‵ Own₀ ⊛ ‵ Own₀) (shr-slice-copy 𝓤 H A W (named 0) κ₀ u32 .twice w (slice-vals w)) $ split ! $ rewrite ! 16 (λ (m : ℕ). ‵ (fat fullShare (tyTable erased) l8 0 (sliceVal (l4, 0) m))) (sym (is-tb .1 .0 .1)) refl $
+        lft-new ! tt (λ α. move ! (20 ∷ 7 ∷ []) $
+        use2 W (later (some (λ (δ : GName). ‵ (MutSlice (named 1) (α ∷ []) R .own (x₁ δ l5) (sliceVal (l5, 0) (length tb) ∷ [])) ⊛ ‵ (flent (α ∷ []) (Held R (length tb) l5 0 δ))))) (lends-array 𝓤 H A W 256 l5 (named 1) (α ∷ []) tb (valArray tb) (room-of tb (is-tb .1 .0 .1))) $ await ! tt $ pick ! (λ δ. split ! $
+        move ! (8 ∷ []) $ use1 W (‵ Own₀ ⊛ ‵ Own₀) (shr-slice-copy 𝓤 H A W (named 0) κ₀ u32 .twice w (slice-vals w)) $ split ! $ rewrite ! 16 (λ (m : ℕ). ‵ (fat fullShare (tyTable erased) l8 0 (sliceVal (l5, 0) m))) (sym (is-tb .1 .0 .1)) refl $
         move ! (7 ∷ 4 ∷ 5 ∷ 1 ∷ 2 ∷ 8 ∷ []) $
-        -- [t0; ta; t2; words2; tab; out; words; lent; tr; o3; L11; D11; L10; D10; L9; D9; L8; D8; L7; D7; L6; D6; L5; D5; D4; L3; D3; L2; D2; L1; D1; L0; D0]
-        use6 𝓤 H A W (raw (Treat 𝓤 H A W at-mem run .pre (to-treat 𝓤 H A W at-mem run κ₀ (α ∷ []) κ₂ q₀ fullShare q₂ w wholeRun (x₁ δ l4) y))) (treat-pre 𝓤 H A W at-mem run κ₀ (α ∷ []) κ₂ q₀ fullShare q₂ w wholeRun (x₁ δ l4) y (d .1)) $
-        calls-at ! fm (Treat 𝓤 H A W at-mem run) known-treat (to-treat 𝓤 H A W at-mem run κ₀ (α ∷ []) κ₂ q₀ fullShare q₂ w wholeRun (x₁ δ l4) y) (and-then ! (load ! (from ! (stop !)) (look ! 22 refl)) (and-then ! (load ! (from ! (stop !)) (look ! 15 refl)) (and-then ! (load ! (from ! (stop !)) (look ! 11 refl)) (and-then ! (load ! (from ! (stop !)) (look ! 7 refl)) (no-more !))))) (λ u.
-        use1 W (later (given (((u ≡ valD r′) × Is D r′ (valsD r′)) × ((length zs′ ≡ length tb) × (length os′ ≡ length (y .now)))) ((‵ (flft κ₀ q₀) ⊛ ‵ (flft (α ∷ []) fullShare) ⊛ ‵ (flft κ₂ q₂) ⊛ ‵ ftrue) ⊛ ‵ (fsep (finally R δ zs′) (finally u32 (y .name) os′))))) (treat-post 𝓤 H A W at-mem run κ₀ (α ∷ []) κ₂ q₀ fullShare q₂ w wholeRun (x₁ δ l4) y u) $ await ! tt $ learn ! (λ f.
-        split ! $ split ! $ move ! (1 ∷ []) $ split ! $ move ! (1 ∷ []) $ split ! $ move ! (4 ∷ []) $ fsplit ! $ land ! (from ! (stop !)) (init ! 22 refl (subst (λ (z : Val). Holds (hasTy TD′.mir z) × WT z) (sym (f .0 .0)) (typedD 𝓤 H A W r′ (f .0 .1)))) $
-        rewrite ! 22 (λ (z : Val). ‵ (fat fullShare TD′.mir l5 0 z)) (f .0 .0) refl $
+        -- [t0; ta; t2; words2; tab; out; words; lent; tr; o3; L11; D11; L10; D10; L9; D9; L8; D8; L7; D7; L6; D6; D5; L4; D4; L3; D3; L2; D2; L1; D1; L0; D0]
+        use6 𝓤 H A W (raw (Treat 𝓤 H A W at-mem run .pre (to-treat 𝓤 H A W at-mem run κ₀ (α ∷ []) κ₂ q₀ fullShare q₂ w j (x₁ δ l5) y))) (treat-pre 𝓤 H A W at-mem run κ₀ (α ∷ []) κ₂ q₀ fullShare q₂ w j (x₁ δ l5) y is-j) $
+        calls-at ! fm (Treat 𝓤 H A W at-mem run) known-treat (to-treat 𝓤 H A W at-mem run κ₀ (α ∷ []) κ₂ q₀ fullShare q₂ w j (x₁ δ l5) y) (and-then ! (load ! (from ! (stop !)) (look ! 22 refl)) (and-then ! (load ! (from ! (stop !)) (look ! 18 refl)) (and-then ! (load ! (from ! (stop !)) (look ! 11 refl)) (and-then ! (load ! (from ! (stop !)) (look ! 7 refl)) (no-more !))))) (λ u.
+        use1 W (later (given (((u ≡ valD r′) × Is D r′ (valsD r′)) × ((length zs′ ≡ length tb) × (length os′ ≡ length (y .now)))) ((‵ (flft κ₀ q₀) ⊛ ‵ (flft (α ∷ []) fullShare) ⊛ ‵ (flft κ₂ q₂) ⊛ ‵ ftrue) ⊛ ‵ (fsep (finally R δ zs′) (finally u32 (y .name) os′))))) (treat-post 𝓤 H A W at-mem run κ₀ (α ∷ []) κ₂ q₀ fullShare q₂ w j (x₁ δ l5) y u) $ await ! tt $ learn ! (λ f.
+        split ! $ split ! $ move ! (1 ∷ []) $ split ! $ move ! (1 ∷ []) $ split ! $ move ! (4 ∷ []) $ fsplit ! $ land ! (from ! (stop !)) (init ! 20 refl (subst (λ (z : Val). Holds (hasTy TD′.mir z) × WT z) (sym (f .0 .0)) (typedD 𝓤 H A W r′ (f .0 .1)))) $
+        rewrite ! 20 (λ (z : Val). ‵ (fat fullShare TD′.mir l6 0 z)) (f .0 .0) refl $
         -- the lifetime ends, and the local table is the array of the slice's last values
-        move ! (4 ∷ []) $ lft-end ! tt $ move ! (0 ∷ 7 ∷ 1 ∷ []) $ use3 W (later (‵ (fat fullShare tyArr l4 0 (valArray zs′)) ⊛ ‵ (Array R 256 .own zs′ (array-vals valsR zs′)))) (array-back 𝓤 H A W 256 l4 (α ∷ []) δ tb zs′ (is-tb .1 .0 .1)) $ await ! tt $ split ! $
+        move ! (4 ∷ []) $ lft-end ! tt $ move ! (0 ∷ 7 ∷ 1 ∷ []) $ use3 W (later (‵ (fat fullShare tyArr l5 0 (valArray zs′)) ⊛ ‵ (Array R 256 .own zs′ (array-vals valsR zs′)))) (array-back 𝓤 H A W 256 l5 (α ∷ []) δ tb zs′ (is-tb .1 .0 .1)) $ await ! tt $ split ! $
         move ! (1 ∷ []) $ peeks ! (Array R 256) (Is (Array R 256)) (shows 𝓤 H A (Array R 256)) zs′ (array-vals valsR zs′) (λ is-z. assigns ! (of-opd ! (load ! (from ! (stop !)) (look ! 1 refl))) (from ! (stop !)) (init ! 9 refl (typedArray 𝓤 H A W zs′ _ is-z)) $
-        assigns ! (agg ! (and-then ! (load ! (from ! (stop !)) (look ! 9 refl)) (and-then ! (load ! (from ! (stop !)) (look ! 21 refl)) (no-more !)))) (from ! (stop !)) (init ! 30 refl (typedU 𝓤 H A W u′ _ (table-is u′ _ is-z (f .0 .1)))) $ returns ! (look ! 30 refl) $
-        forget ! 30 refl $ forget ! 28 refl $ forget ! 26 refl $ forget ! 24 refl $ forget ! 1 refl $ forget ! 21 refl $ forget ! 19 refl $ forget ! 17 refl $ forget ! 15 refl $ forget ! 13 refl $ forget ! 11 refl $ forget ! 9 refl $ move ! (30 ∷ 31 ∷ []) $ free1 ! $
-        move ! (28 ∷ 29 ∷ []) $ free1 ! $ move ! (26 ∷ 27 ∷ []) $ free1 ! $ move ! (24 ∷ 25 ∷ []) $ free1 ! $ move ! (1 ∷ 23 ∷ []) $ free1 ! $ move ! (20 ∷ 21 ∷ []) $ free1 ! $ move ! (18 ∷ 19 ∷ []) $ free1 ! $ move ! (16 ∷ 17 ∷ []) $ free1 ! $ move ! (14 ∷ 15 ∷ []) $
-        free1 ! $ move ! (12 ∷ 13 ∷ []) $ free1 ! $ move ! (10 ∷ 11 ∷ []) $ free1 ! $ move ! (8 ∷ 9 ∷ []) $ free1 ! $ free0 ! $ keep ! (4 ∷ 2 ∷ 5 ∷ 1 ∷ []) $ by ! (exits (table-is u′ _ is-z (f .0 .1)) (f .1 .1)))))))))))))))))))))
+        assigns ! (agg ! (and-then ! (load ! (from ! (stop !)) (look ! 9 refl)) (and-then ! (load ! (from ! (stop !)) (look ! 19 refl)) (no-more !)))) (from ! (stop !)) (init ! 30 refl (typedU 𝓤 H A W u′ _ (table-is u′ _ is-z (f .0 .1)))) $ returns ! (look ! 30 refl) $
+        forget ! 30 refl $ forget ! 28 refl $ forget ! 26 refl $ forget ! 24 refl $ forget ! 22 refl $ forget ! 1 refl $ forget ! 19 refl $ forget ! 17 refl $ forget ! 15 refl $ forget ! 13 refl $ forget ! 11 refl $ forget ! 9 refl $ move ! (30 ∷ 31 ∷ []) $ free1 ! $
+        move ! (28 ∷ 29 ∷ []) $ free1 ! $ move ! (26 ∷ 27 ∷ []) $ free1 ! $ move ! (24 ∷ 25 ∷ []) $ free1 ! $ move ! (22 ∷ 23 ∷ []) $ free1 ! $ move ! (1 ∷ 21 ∷ []) $ free1 ! $ move ! (18 ∷ 19 ∷ []) $ free1 ! $ move ! (16 ∷ 17 ∷ []) $ free1 ! $ move ! (14 ∷ 15 ∷ []) $
+        free1 ! $ move ! (12 ∷ 13 ∷ []) $ free1 ! $ move ! (10 ∷ 11 ∷ []) $ free1 ! $ move ! (8 ∷ 9 ∷ []) $ free1 ! $ free0 ! $ keep ! (4 ∷ 2 ∷ 5 ∷ 1 ∷ []) $ by ! (exits (table-is u′ _ is-z (f .0 .1)) (f .1 .1)))))))))))))))))))
 
 module _ {M : Type 1} (𝓤 : URA M) (H : Heap 𝓤) (A : Atoms 𝓤) (W : Given 𝓤 H A) (at-mem : Memory → SProp 𝓤) (run : Routine → Fun 𝓤) where
-  go-walks : (C : Calls 𝓤 H) (Λ : Loops 𝓤 H) → FmC 𝓤 H (W .laws) C → Triple 𝓤 (C #table·treat) (Treat 𝓤 H A W at-mem run) → Triple 𝓤 (C #table·whole-run) (Make 𝓤 H A W at-mem run)
+  go-walks : (C : Calls 𝓤 H) (Λ : Loops 𝓤 H) → FmC 𝓤 H (W .laws) C → Triple 𝓤 (C #table·treat) (Treat 𝓤 H A W at-mem run)
       → Walks 𝓤 H A go.ended stayed (WpFn 𝓤 H C Λ code.function) (go.clauses 𝓤 H A at-mem run)
-  go-walks C Λ fm k₁ k₂ = walked 𝓤 H A go.ended stayed (go.clauses 𝓤 H A at-mem run) (WpFn 𝓤 H C Λ code.function)
-      (λ κs. (array-vals valsR, (slice-vals, (slice-vals, tt)))) (λ κs. (array-tells R valsR tellsR 256, (shr-slice-tells (named 0) (κs .0) u32, (mut-slice-tells (named 1) (κs .1 .0) u32, tt))))
-      (λ κs qs bounds a g are. via 𝓤 _ (fst∗ 𝓤 _ (emp 𝓤)) (walk 𝓤 H A W at-mem run (κs .0) (κs .1 .0) (qs .0) (qs .1 .0) (a .0) (a .1 .0) (a .1 .1 .0) (are .0) (are .1 .0 .0 .1) (are .1 .1 .0 .0 .1) C Λ fm k₁ k₂))
+  go-walks C Λ fm k₁ = walked 𝓤 H A go.ended stayed (go.clauses 𝓤 H A at-mem run) (WpFn 𝓤 H C Λ code.function)
+      (λ κs. (array-vals valsR, (slice-vals, (slice-vals, (valsJ, tt))))) (λ κs. (array-tells R valsR tellsR 256, (shr-slice-tells (named 0) (κs .0) u32, (mut-slice-tells (named 1) (κs .1 .0) u32, (tellsJ, tt)))))
+      (λ κs qs bounds a g are. via 𝓤 _ (fst∗ 𝓤 _ (emp 𝓤)) (walk 𝓤 H A W at-mem run (κs .0) (κs .1 .0) (qs .0) (qs .1 .0) (a .0) (a .1 .0) (a .1 .1 .0) (a .1 .1 .1 .0) (are .0) (are .1 .0 .0 .1) (are .1 .1 .0 .0 .1) (are .1 .1 .1 .0) C Λ fm k₁))
 
-go-meets : {M : Type 1} (𝓤 : URA M) (H : Heap 𝓤) (A : Atoms 𝓤) (W : Given 𝓤 H A) (mem : Memory → SProp 𝓤) (run : Routine → Fun 𝓤) (𝓣 : Tables 𝓤 H) → Triple 𝓤 (𝓣 .C #table·treat) (Treat 𝓤 H A W mem run) → Triple 𝓤 (𝓣 .C #table·whole-run) (Make 𝓤 H A W mem run)
+go-meets : {M : Type 1} (𝓤 : URA M) (H : Heap 𝓤) (A : Atoms 𝓤) (W : Given 𝓤 H A) (mem : Memory → SProp 𝓤) (run : Routine → Fun 𝓤) (𝓣 : Tables 𝓤 H) → Triple 𝓤 (𝓣 .C #table·treat) (Treat 𝓤 H A W mem run)
     → Meets 𝓤 H A go.signature (WpFn 𝓤 H (𝓣 .C) (𝓣 .Λ) code.function) (go.spec 𝓤 H A mem run)
-go-meets 𝓤 H A W mem run 𝓣 k₁ k₂ =
-    walk-meets 𝓤 H A go.ended stayed W (goes-dropped 𝓤 H A W 2 (arrayOf (plain (λ _. R)) 256) yes (λ κs x f. refl), (goes-none-slice 𝓤 H A W 2 (0 ∷ []) tt (plain (λ _. u32)) yes, (goes-gave-slice 𝓤 H A W 2 1 tt (plain (λ _. u32)), tt))) (go.clauses 𝓤 H A mem run)
-    (WpFn 𝓤 H (𝓣 .C) (𝓣 .Λ) code.function) (WpFn-mono 𝓤 H (W .laws) 𝓣 code.function) (go-walks 𝓤 H A W mem run (𝓣 .C) (𝓣 .Λ) (fmOf 𝓤 H (W .laws) 𝓣) k₁ k₂)
+go-meets 𝓤 H A W mem run 𝓣 k₁ =
+    walk-meets 𝓤 H A go.ended stayed W (goes-dropped 𝓤 H A W 2 (arrayOf (plain (λ _. R)) 256) yes (λ κs x f. refl), (goes-none-slice 𝓤 H A W 2 (0 ∷ []) tt (plain (λ _. u32)) yes, (goes-gave-slice 𝓤 H A W 2 1 tt (plain (λ _. u32)), (goes-none 𝓤 H A W 2 (λ _. J) yes (λ κs x f. refl), tt)))) (go.clauses 𝓤 H A mem run)
+    (WpFn 𝓤 H (𝓣 .C) (𝓣 .Λ) code.function) (WpFn-mono 𝓤 H (W .laws) 𝓣 code.function) (go-walks 𝓤 H A W mem run (𝓣 .C) (𝓣 .Λ) (fmOf 𝓤 H (W .laws) 𝓣) k₁)
 
 pub run-from-spec : {M : Type 1} → stated.statement M
 unfolding code.routine tablesOf
@@ -164,5 +135,4 @@ run-from-spec 𝓤 H 𝓜 𝓖 𝓡 =
     entered 𝓤 H (tripleOf 𝓤 H (𝓖 .A) go.signature (go.spec 𝓤 H (𝓖 .A) (𝓜 .mem) (𝓡 .run)))
     (tables 𝓤 H 𝓜 𝓡 code.env .C) (tables 𝓤 H 𝓜 𝓡 code.env .Λ) #table·run-from code.function (code.unfolded 𝓤 H 𝓜 𝓡)
     (go-meets 𝓤 H (𝓖 .A) (givenOf 𝓤 H 𝓜 𝓖) (𝓜 .mem) (𝓡 .run) (tablesOf 𝓤 H 𝓜 (tables 𝓤 H 𝓜 𝓡 code.env))
-    (cited 𝓤 H (Treat 𝓤 H (𝓖 .A) (givenOf 𝓤 H 𝓜 𝓖) (𝓜 .mem) (𝓡 .run)) 𝓜 𝓡 code.env #table·treat treat-def.routine code.calls-table·treat (treat-thm.met 𝓤 H 𝓜 𝓖 𝓡))
-    (cited 𝓤 H (Make 𝓤 H (𝓖 .A) (givenOf 𝓤 H 𝓜 𝓖) (𝓜 .mem) (𝓡 .run)) 𝓜 𝓡 code.env #table·whole-run make-def.routine code.calls-table·whole-run (make-thm.met 𝓤 H 𝓜 𝓖 𝓡)))
+    (cited 𝓤 H (Treat 𝓤 H (𝓖 .A) (givenOf 𝓤 H 𝓜 𝓖) (𝓜 .mem) (𝓡 .run)) 𝓜 𝓡 code.env #table·treat treat-def.routine code.calls-table·treat (treat-thm.met 𝓤 H 𝓜 𝓖 𝓡)))

@@ -10,13 +10,13 @@ use Rattle.voice.proofs.upward.speak_up.Tie as tie
 returns : tie.Need-returns
 returns c =
     let a = c .before .before .before .before .before .before .before .args in
-    rw (speaks-sound (a .«record») (a .w) (sym (c .before .before .before .before .before .is-sound .ensures) ∙ c .before .before .before .before .if1 .taken)) (c .before .before .speak .ensures)
+    rw (speaks-sound _ (a .«record») (a .w) (sym (c .before .before .before .before .before .is-found-sound .ensures) ∙ c .before .before .before .before .if1 .taken)) (c .before .before .speak .ensures)
 
 returns-2 : tie.Need-returns-2
 returns-2 c =
     let a = c .before .before .before .before .before .args in
     rw (c .stays .ensures, c .before .report .ensures)
-    (speaks-unsound (a .past) (a .w) (a .«record») (now (a .out)) (sym (c .before .before .before .is-sound .ensures) ∙ c .before .before .if1 .left))
+    (speaks-unsound _ (a .past) (a .w) (a .«record») (now (a .out)) (sym (c .before .before .before .is-found-sound .ensures) ∙ c .before .before .if1 .left))
 
 pub speak-up-spec : {M : Type 1} → statement M
 speak-up-spec =
