@@ -13,3 +13,4 @@ pub mod PictureLaws
 pub mod MarkLaws
 pub mod SoundnessLaws
 pub mod LessonLaws
+pub mod BeginnersLaws

@@ -9,10 +9,13 @@ use lib.ListN.{getD, length, length-set, set}
 use lib.Seq.{getD-set-other, getD-set-same, set-getD}
 use borrow.Author.Tests.{eqb-false}
 use Rattle.ground.proofs.Cases.{by-bool, choose}
+use Rattle.ump.specs.Word.{messageType, voice1, voice2}
+use Rattle.ump.specs.Packet.{first}
 use Rattle.stream.specs.Answers.{answered, noTable, notSound, outOfRange}
 use Rattle.memory.specs.declared.Memory.{Memory}
 use Rattle.memory.specs.Memory.{addressOpen, dataHighPresent, marked, sound, withDataHigh}
 use Rattle.memory.proofs.Sound.{data-unmarked, proved-stays-sound}
+use Rattle.screen.specs.Screen.{goesOn, openRule, screen}
 use Rattle.channel.specs.declared.Record.{Record}
 use Rattle.channel.specs.Record.{EmptyButMarks, empty, wholeTable, withMark}
 use Rattle.channel.specs.Record as Channel
@@ -20,7 +23,7 @@ use Rattle.message.specs.Message.{read1}
 use Rattle.lift.specs.Lift.{controlOf, controlled, dataHigh, dataLow, lift}
 use Rattle.lift.specs.Played.{recordAfter}
 use Rattle.lift.proofs.LiftLaws.{lift-marks}
-use Rattle.table.specs.Table.{SoundTable}
+use Rattle.table.specs.Table.{SoundTable, oneUp, runUp}
 use Rattle.table.proofs.KeptLaws.{at-set, one-keeps, run-keeps}
 use Rattle.question.specs.Question.{inRange, placeAsked}
 use Rattle.mark.specs.Mark.{markAnswer, named, recordOf, tableMarked}
@@ -45,8 +48,10 @@ module _ (t : List Record) where
   abbrev Same : ℕ → Record → Type 0
   Same k r = r .memory .coarse ≡ markOn t k
 
-  same-after : (k : ℕ) (r : Record) (w : ℕ) → sound (r .memory) ≡ true → Same k r → Same k (recordAfter r (read1 w))
-  same-after k r w _ h = lift-marks (r .memory) (read1 w) ∙ h
+  same-after : (k : ℕ) (r : Record) (p : List ℕ) → screen voice2 p .answer ≡ goesOn
+      → eqb (messageType (first p)) voice1 ≡ true
+      → sound (r .memory) ≡ true → Same k r → Same k (recordAfter r (read1 (first p)))
+  same-after k r p _ _ _ h = lift-marks (r .memory) (read1 (first p)) ∙ h
 
 -- the setting call, by whether a record is named and whether it is sound
 module _ (t : List Record) (group channel : ℕ) where
@@ -139,13 +144,14 @@ setting =
     }
 
 pub proved-marks : Marks
+unfolding oneUp runUp
 proved-marks =
     record {
       coarsely = coarsely;
       messages = lift-marks;
       calls = λ room t s.
-          one-keeps (Same t) (λ _. Unit {0}) tt tt tt (λ _ _ _ _. tt) (same-after t) room t s (λ _. refl);
+          one-keeps openRule (Same t) (λ _. Unit {0}) tt tt tt (λ _ _ _ _. tt) (same-after t) room t s (λ _. refl);
       runs = λ room t s.
-          run-keeps (Same t) (λ _. Unit {0}) tt tt tt (λ _ _ _ _. tt) (same-after t) tt room t s (λ _. refl) .0;
+          run-keeps openRule (Same t) (λ _. Unit {0}) tt tt tt (λ _ _ _ _. tt) (same-after t) tt room t s (λ _. refl) .0;
       setting = setting;
     }

@@ -8,6 +8,7 @@ use Rattle.ump.specs.Packet.{cut}
 use Rattle.stream.specs.Claims.{calls}
 use Rattle.channel.specs.declared.Record.{Record}
 use Rattle.channel.specs.Record.{fresh}
+use Rattle.screen.specs.Screen.{openRule}
 use Rattle.table.specs.Table.{tableUp}
 use Rattle.table.proofs.KeptLaws.{fresh-unmarked}
 use Rattle.claims.specs.NormalForm.{NormalForm, NormalFrom, downward, normal, upward}
@@ -29,7 +30,7 @@ module _ (t : List Record) (y : Blank t) where
         own = λ s. ap downward (back s .0);
         taken = λ s. back s .1;
         ends = λ s.
-            taken-ends tableUp (up-stops (λ (a : ℕ). 2 ≤ a) (omega arith) (omega arith) (omega arith))
+            taken-ends tableUp (up-stops (λ (a : ℕ). 2 ≤ a) (omega arith) (omega arith) (omega arith) openRule)
             (cut (normal t s)) t (back s .1);
       }
 

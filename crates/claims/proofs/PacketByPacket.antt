@@ -1,6 +1,7 @@
 -- A run is the calls of its packets. Assumes nothing.
 use Prim.Native.Nat.{ℕ, _+_}
 use mathlib.Core.Path.{_≡_, refl, ap, _∙_}
+use mathlib.Core.Bool.{false}
 use mathlib.Core.List.{List, [], _∷_, _++_, map}
 use native.Mathlib.Omega.{arith}
 use lib.ListN.{length, length-append}
@@ -14,10 +15,12 @@ use Rattle.stream.specs.Call.{Call, readOf, sentOf, within}
 use Rattle.stream.specs.Run.{Ran, run}
 use Rattle.stream.specs.Claims.{Made, andThen, calls}
 use Rattle.stream.proofs.RunLaws.{Does, by-calls, run-append, run-does, within-does}
+use Rattle.screen.specs.declared.Rule.{Rule}
+use Rattle.screen.specs.Screen.{openRule}
 use Rattle.channel.specs.declared.Record.{Record}
 use Rattle.channel.specs.Record.{wholeTable}
 use Rattle.voice.specs.Packet.{callDown, runDown}
-use Rattle.table.specs.Table.{runUp, tableUp}
+use Rattle.table.specs.Table.{runUp, tableBy, tableUp}
 use Rattle.claims.specs.PacketByPacket.{ByPackets, PacketByPacket}
 use Rattle.claims.proofs.StepLaws.{down-stops, up-length, up-stops}
 use Rattle.claims.proofs.StreamLaws.{cut-all, cut-joined}
@@ -53,10 +56,11 @@ module _ {T : Type 0} (step : T → List ℕ → Call T)
         in-two = λ t ps s h. rw (cut-joined ps s h, cut-all ps h) (run-append step stops ps (cut s) t);
       }
 
-up-by-packets : ByPackets (within tableUp)
-up-by-packets =
-    by-packets (within tableUp) (λ u p. within-does tableUp (λ _. Unit {0}) NotSent (λ e. omega arith) u p
-    (up-stops NotSent (λ e. omega arith) (λ e. omega arith) (λ e. omega arith) (u .1) p))
+pub up-by-packets : (rule : Rule) → ByPackets (within (tableBy rule false))
+up-by-packets rule =
+    by-packets (within (tableBy rule false)) (λ u p.
+    within-does (tableBy rule false) (λ _. Unit {0}) NotSent (λ e. omega arith) u p
+    (up-stops NotSent (λ e. omega arith) (λ e. omega arith) (λ e. omega arith) rule (u .1) p))
 
 down-by-packets : ByPackets (within callDown)
 down-by-packets =
@@ -69,7 +73,7 @@ pub stays-whole : (ps : List (List ℕ)) (room : ℕ) (t : List Record) → leng
 stays-whole ps room t h =
     run-does (within tableUp) (λ (u : ℕ × List Record). length (u .1) ≡ wholeTable) (λ _. Unit {0}) tt
     (λ u p k. within-does tableUp (λ (v : List Record). length v ≡ wholeTable) (λ _. Unit {0}) tt u p
-    (rw k at (up-length (u .1) p)))
+    (rw k at (up-length openRule (u .1) p)))
     ps (room, t) h .0
 
 run-up : (room : ℕ) (t : List Record) (s : List ℕ) → length t ≡ wholeTable
@@ -94,7 +98,7 @@ up-in-two room t ps s h =
       run-up room t (joined ps) l,
       run-up (r .left .0) (r .left .1) s (stays-whole (cut (joined ps)) room t l),
     )
-    (up-by-packets .in-two (room, t) ps s h))
+    (up-by-packets openRule .in-two (room, t) ps s h))
     (λ e. let no-whole = eqb-false (length t) wholeTable e in
     rw (no-table room t (joined ps ++ s) no-whole, no-table room t (joined ps) no-whole))
 
@@ -102,7 +106,7 @@ pub proved-packet-by-packet : PacketByPacket
 unfolding runDown
 proved-packet-by-packet =
     record {
-      up = up-by-packets;
+      up = up-by-packets openRule;
       down = down-by-packets;
       run-up = run-up;
       no-table = no-table;

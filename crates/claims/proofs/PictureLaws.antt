@@ -18,7 +18,7 @@ use Rattle.stream.specs.Call.{Call, fit, leftOf, stopped, went, within}
 use Rattle.stream.specs.Run.{Ran, run, thenRun}
 use Rattle.stream.specs.Claims.{Made, calls, thenCalls}
 use Rattle.stream.proofs.CallLaws.{refusal, refused-fits}
-use Rattle.screen.specs.Screen.{goesOn, screen}
+use Rattle.screen.specs.Screen.{goesOn, openRule, screen}
 use Rattle.keys.specs.declared.Keys.{Keys}
 use Rattle.keys.specs.Keys.{down, least, tally}
 use Rattle.keys.specs.History.{after}
@@ -89,13 +89,13 @@ module _ (group channel : ℕ) (hg : group ≤ 15) (hc : channel ≤ 15) where
   told : (room : ℕ) (t : List Record) (s : List ℕ) → Told room t s (within tableUp (room, t) s)
   unfolding within
   told room t s =
-      table-cases (λ (c : Call (List Record)). Told room t s (fit room c)) t s (λ _. refl) (λ full. record {
+      table-cases (λ (c : Call (List Record)). Told room t s (fit room c)) openRule t s (λ _. refl) (λ full. record {
         refuses = λ n.
             let a = screen voice2 p .answer in
             let x = refusal {T = ℕ × List Record} a (room, t) [] (λ _. refl) in
-            rw (refused-fits room a t, x .0, x .3, lt-leb a takenIn (refuses-above voice2 p n));
+            rw (refused-fits room a t, x .0, x .3, lt-leb a takenIn (refuses-above openRule voice2 p n));
         onward = λ f e.
-            choose (Told room t s) (leb (length p) room) (λ _. rw (standing s (has-words voice2 p f) .1, e))
+            choose (Told room t s) (leb (length p) room) (λ _. rw (standing s (has-words openRule voice2 p f) .1, e))
             (λ _. refl);
         unsound = λ _ _ _. refl;
         takes = λ f e _ _. spoken full f e takenIn [] refl;
@@ -114,7 +114,7 @@ module _ (group channel : ℕ) (hg : group ≤ 15) (hc : channel ≤ 15) where
           (fit room (went a ws (set t (placeOf (first s)) (recordAfter (getD t (placeOf (first s)) empty) (read1 w)))))
       spoken full f e a ws h =
           choose (Told room t s) (leb (length ws) room)
-          (λ _. rw (h, standing s (has-words voice2 p f) .1, e)
+          (λ _. rw (h, standing s (has-words openRule voice2 p f) .1, e)
           (put-back t w (read1 w) (eqb-true (length t) wholeTable full)))
           (λ _. refl)
 

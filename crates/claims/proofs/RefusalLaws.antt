@@ -13,12 +13,13 @@ use Rattle.ump.specs.Word.{channelOf, groupOf, messageType, placeOf, voice1, vo
 use Rattle.ump.specs.Packet.{first, packet, second, size}
 use Rattle.ump.proofs.PacketLaws.{packet-four}
 use Rattle.stream.specs.Answers.{badData, badStatus, cutPacket, noForm, noRoom, noTable, notSound, reservedType, sent}
-use Rattle.stream.specs.Answers.{stopsRun, takenIn, wrongProtocol}
+use Rattle.stream.specs.Answers.{notForRoom, stopsRun, takenIn, wrongProtocol}
 use Rattle.stream.specs.Call.{Call, answerOf, fit, leftOf, readOf, refused, sentOf, went, within}
 use Rattle.stream.proofs.CallLaws.{refusal, refused-fits}
 use Rattle.stream.proofs.RunLaws.{does-left, within-does}
 use Rattle.fields.specs.Check.{badPlaceOf, checkedFields, goodFields, goodStatus}
-use Rattle.screen.specs.Screen.{answering, goesOn, reserved, screen}
+use Rattle.screen.specs.declared.Rule.{Rule}
+use Rattle.screen.specs.Screen.{admitted, answering, forBeginners, goesOn, openRule, reserved, screen, screenBy}
 use Rattle.screen.proofs.ScreenLaws.{passed}
 use Rattle.channel.specs.declared.Record.{Record}
 use Rattle.channel.specs.Record.{empty, sound, wholeTable}
@@ -26,50 +27,58 @@ use Rattle.message.specs.Message.{read2, write1, write2}
 use Rattle.lower.specs.Lower.{lower}
 use Rattle.voice.specs.Packet.{callDown}
 use Rattle.voice.proofs.PacketLaws.{down-cases, few-down}
-use Rattle.table.specs.Table.{tableUp}
-use Rattle.claims.specs.Refusals.{ByAnswer, Case, Refusals, case, casesDown, casesOf, casesUp, numbered}
+use Rattle.table.specs.Table.{tableBy}
+use Rattle.claims.specs.Refusals.{ByAnswer, Case, Refusals, case, casesDown, casesOf, numbered}
 use Rattle.claims.proofs.StreamLaws.{standing}
 use Rattle.claims.proofs.StepLaws.{has-words, reads-words, refuses-above, table-cases, up-calls}
 
+-- the case of a rule, which does not hold where the rule is the open one
+abbrev ruled : Rule → List ℕ → Case
+ruled rule p = case notForRoom (rule .beginners && not (forBeginners (first p)))
+
 -- the cases of the screening, and then others: the screening decides, or the others do
-screening : (wrong : ℕ) (p : List ℕ) (cs : List Case)
-    → numbered (casesOf wrong p ++ cs)
-    ≡ cond (eqb (screen wrong p .answer) goesOn) (numbered cs) (screen wrong p .answer)
-unfolding screen
-screening wrong p cs =
+screening : (rule : Rule) (wrong : ℕ) (p : List ℕ) (cs : List Case)
+    → numbered (casesOf wrong p ++ ruled rule p ∷ cs)
+    ≡ cond (eqb (screenBy rule wrong p .answer) goesOn) (numbered cs) (screenBy rule wrong p .answer)
+unfolding screenBy admitted
+screening rule wrong p cs =
     go (eqb (length p) 0) (reserved (messageType (first p))) (eqb (messageType (first p)) wrong)
     (not (goodStatus (first p)))
-    (goodFields (checkedFields (first p) (second p)))
+    (goodFields (checkedFields (first p) (second p))) (rule .beginners) (forBeginners (first p))
   where
-    go : (a b c d e : Bool) →
+    go : (a b c d e f g : Bool) →
         let x = cond a (answering cutPacket) (cond b (answering reservedType) (cond c (answering wrongProtocol)
-        (cond d (answering badStatus) (cond e (answering goesOn) (record { answer = badData; place = badPlaceOf p }))))) in
+        (cond d (answering badStatus) (cond e (answering (cond f (cond g goesOn notForRoom) goesOn))
+        (record { answer = badData; place = badPlaceOf p }))))) in
         numbered
-        (case cutPacket a ∷ case reservedType b ∷ case wrongProtocol c ∷ case badStatus d ∷ case badData (not e) ∷ cs)
+        (case cutPacket a ∷ case reservedType b ∷ case wrongProtocol c ∷ case badStatus d ∷ case badData (not e)
+        ∷ case notForRoom (f && not g) ∷ cs)
         ≡ cond (eqb (x .answer) goesOn) (numbered cs) (x .answer)
-    go true b c d e = refl
-    go false true c d e = refl
-    go false false true d e = refl
-    go false false false true e = refl
-    go false false false false true = refl
-    go false false false false false = refl
+    go true b c d e f g = refl
+    go false true c d e f g = refl
+    go false false true d e f g = refl
+    go false false false true e f g = refl
+    go false false false false true true true = refl
+    go false false false false true true false = refl
+    go false false false false true false g = refl
+    go false false false false false f g = refl
 
 -- what a refusal by the screening, and a packet that goes on, come to among the cases
-refused-row : {T : Type 0} (room wrong : ℕ) (p : List ℕ) (t : T) (cs : List Case)
-    → (screen wrong p .answer ≡ goesOn → ⊥)
-    → answerOf (fit room (refused (screen wrong p .answer) t)) ≡ numbered (casesOf wrong p ++ cs)
-refused-row {T} room wrong p t cs n =
-    let a = screen wrong p .answer in
+refused-row : {T : Type 0} (rule : Rule) (room wrong : ℕ) (p : List ℕ) (t : T) (cs : List Case)
+    → (screenBy rule wrong p .answer ≡ goesOn → ⊥)
+    → answerOf (fit room (refused (screenBy rule wrong p .answer) t)) ≡ numbered (casesOf wrong p ++ ruled rule p ∷ cs)
+refused-row {T} rule room wrong p t cs n =
+    let a = screenBy rule wrong p .answer in
     rw (
       refused-fits room a t,
       refusal {T = ℕ × T} a (room, t) [] (λ _. refl) .0,
-      screening wrong p cs,
+      screening rule wrong p cs,
       ne-eqb a goesOn n,
     )
 
-onward-row : (wrong : ℕ) (p : List ℕ) (cs : List Case) → screen wrong p .answer ≡ goesOn
-    → numbered (casesOf wrong p ++ cs) ≡ numbered cs
-onward-row wrong p cs f = screening wrong p cs ∙ rw f
+onward-row : (rule : Rule) (wrong : ℕ) (p : List ℕ) (cs : List Case) → screenBy rule wrong p .answer ≡ goesOn
+    → numbered (casesOf wrong p ++ ruled rule p ∷ cs) ≡ numbered cs
+onward-row rule wrong p cs f = screening rule wrong p cs ∙ rw f
 
 -- room or not: the answer of a call that sends so many words
 roomed-answer : {T : Type 0} (room a : ℕ) (ws : List ℕ) (u : T)
@@ -78,21 +87,33 @@ roomed-answer room a ws u =
     by-bool (leb (length ws) room) (λ e. rw (e, le-ltb room (length ws) (leb-true (length ws) room e)))
     (λ e. rw (e, lt-ltb room (length ws) (leb-false (length ws) room e)))
 
-up-answer : (room : ℕ) (t : List Record) (s : List ℕ)
-    → answerOf (within tableUp (room, t) s) ≡ numbered (casesUp room t s)
+-- the cases of a call up under a rule
+abbrev casesBy : Rule → ℕ → List Record → List ℕ → List Case
+casesBy rule room t s =
+    case noTable (not (eqb (length t) wholeTable))
+    ∷ casesOf voice2 (packet s)
+    ++ ruled rule (packet s)
+    ∷ case notSound (eqb (messageType (first (packet s))) voice1 && not (sound (getD t (placeOf (first s)) empty)))
+    ∷ case noRoom (ltb room (length (sentOf (tableBy rule false t s))))
+    ∷ case takenIn (eqb (length (sentOf (tableBy rule false t s))) 0)
+    ∷ []
+
+pub up-answer : (rule : Rule) (room : ℕ) (t : List Record) (s : List ℕ)
+    → answerOf (within (tableBy rule false) (room, t) s) ≡ numbered (casesBy rule room t s)
 unfolding within
-up-answer room t s =
+up-answer rule room t s =
     table-cases (λ (c : Call (List Record)).
     answerOf (fit room c) ≡ cond (not (eqb (length t) wholeTable)) noTable
-    (numbered (casesOf voice2 p ++ last (sentOf c)))) t s
+    (numbered (casesOf voice2 p ++ ruled rule p ∷ last (sentOf c)))) rule t s
     (λ e. rw e) (λ full. rw full (record {
-      refuses = refused-row room voice2 p t (last (sentOf (refused (screen voice2 p .answer) t)));
-      onward = λ f e. rw (onward-row voice2 p (last p) f, e, passed voice2 p f .some) (roomed-answer room sent p t);
-      unsound = λ f e h. rw (onward-row voice2 p (last []) f, e, h);
-      takes = λ f e h _. rw (onward-row voice2 p (last []) f, e, h) (roomed-answer room takenIn [] _);
+      refuses = refused-row rule room voice2 p t (last (sentOf (refused (screenBy rule voice2 p .answer) t)));
+      onward = λ f e.
+          rw (onward-row rule voice2 p (last p) f, e, passed rule voice2 p f .some) (roomed-answer room sent p t);
+      unsound = λ f e h. rw (onward-row rule voice2 p (last []) f, e, h);
+      takes = λ f e h _. rw (onward-row rule voice2 p (last []) f, e, h) (roomed-answer room takenIn [] _);
       sends = λ f e h m _.
           let ws = write2 (groupOf (first p)) (channelOf (first p)) m in
-          rw (onward-row voice2 p (last ws) f, e, h) (roomed-answer room sent ws _);
+          rw (onward-row rule voice2 p (last ws) f, e, h) (roomed-answer room sent ws _);
     }))
   where
     p : List ℕ
@@ -108,12 +129,12 @@ unfolding within callDown
 down-answer room s =
     down-cases (λ (c : Call (Unit {0})). answerOf (fit room c) ≡ numbered (casesOf voice1 p ++ last (sentOf c))) p
     (record {
-      refuses = refused-row room voice1 p tt (last (sentOf (refused (screen voice1 p .answer) tt)));
-      onward = λ f e. rw (onward-row voice1 p (last p) f, e) (roomed-answer room sent p tt);
-      formless = λ f e k. rw (leb·zero room, onward-row voice1 p (last []) f, e, k);
+      refuses = refused-row openRule room voice1 p tt (last (sentOf (refused (screen voice1 p .answer) tt)));
+      onward = λ f e. rw (onward-row openRule voice1 p (last p) f, e) (roomed-answer room sent p tt);
+      formless = λ f e k. rw (leb·zero room, onward-row openRule voice1 p (last []) f, e, k);
       sends = λ f e m ms k.
           let ws = map (write1 (groupOf (first p)) (channelOf (first p))) (m ∷ ms) in
-          rw (onward-row voice1 p (last ws) f, e, k, eqb·suc-zero (length ms)) (roomed-answer room sent ws tt);
+          rw (onward-row openRule voice1 p (last ws) f, e, k, eqb·suc-zero (length ms)) (roomed-answer room sent ws tt);
     })
   where
     p : List ℕ
@@ -166,16 +187,16 @@ module _ {T : Type 0} (room : ℕ) (t : T) (s : List ℕ) where
       })
       (λ _. by-refusal noRoom (omega arith) (λ _. n))
 
-up-shape : (t : List Record) (s : List ℕ) → Shape t s (tableUp t s)
+up-shape : (rule : Rule) (t : List Record) (s : List ℕ) → Shape t s (tableBy rule false t s)
 unfolding refused
-up-shape t s =
+up-shape rule t s =
     let p = packet s in
-    table-cases (Shape t s) t s (λ _. refusing {a = noTable} (omega arith) not-both′) (λ _. record {
-      refuses = λ n. refusing (refuses-above voice2 p n) (reads-words voice2 p);
-      onward = λ f _. sending (has-words voice2 p f) (has-words voice2 p f) (packet-four s);
+    table-cases (Shape t s) rule t s (λ _. refusing {a = noTable} (omega arith) not-both′) (λ _. record {
+      refuses = λ n. refusing (refuses-above rule voice2 p n) (reads-words rule voice2 p);
+      onward = λ f _. sending (has-words rule voice2 p f) (has-words rule voice2 p f) (packet-four s);
       unsound = λ _ _ _. refusing {a = notSound} (omega arith) not-both′;
-      takes = λ f _ _ _. taking (has-words voice2 p f);
-      sends = λ f _ _ _ _. sending (has-words voice2 p f) (omega arith) (omega arith);
+      takes = λ f _ _ _. taking (has-words rule voice2 p f);
+      sends = λ f _ _ _ _. sending (has-words rule voice2 p f) (omega arith) (omega arith);
     })
   where
     not-both′ : {X : Type 0} → true ≡ false → X
@@ -186,32 +207,45 @@ unfolding callDown refused
 down-shape s =
     let p = packet s in
     down-cases (λ (c : Call (Unit {0})). length (sentOf c) ≤ 4 → Shape tt s c) p (record {
-      refuses = λ n _. refusing (refuses-above voice1 p n) (reads-words voice1 p);
-      onward = λ f _ h. sending (has-words voice1 p f) (has-words voice1 p f) h;
-      formless = λ f _ _ _. refusing {a = noForm} (omega arith) (λ _. has-words voice1 p f);
+      refuses = λ n _. refusing (refuses-above openRule voice1 p n) (reads-words openRule voice1 p);
+      onward = λ f _ h. sending (has-words openRule voice1 p f) (has-words openRule voice1 p f) h;
+      formless = λ f _ _ _. refusing {a = noForm} (omega arith) (λ _. has-words openRule voice1 p f);
       sends = λ f _ m ms _ h.
-          sending {ws = map (write1 (groupOf (first p)) (channelOf (first p))) (m ∷ ms)} (has-words voice1 p f)
+          sending {ws = map (write1 (groupOf (first p)) (channelOf (first p))) (m ∷ ms)} (has-words openRule voice1 p f)
           (omega arith) h;
     }) (few-down p (packet-four s))
 
 -- what holds of the table with any own record holds of the table after
-after-call : (I : List Record → Type 0) (room : ℕ) (t : List Record) (s : List ℕ) → I t
-    → ((r : Record) → I (set t (placeOf (first s)) r)) → I (leftOf (room, t) (within tableUp (room, t) s) .1)
-after-call I room t s h other =
-    does-left (λ (u : ℕ × List Record). I (u .1)) (λ _. Unit {0}) (room, t) (within tableUp (room, t) s) h
-    (within-does tableUp I (λ _. Unit {0}) tt (room, t) s (up-calls I (λ _. Unit {0}) tt tt tt t s other))
+after-call : (I : List Record → Type 0) (rule : Rule) (room : ℕ) (t : List Record) (s : List ℕ) → I t
+    → ((r : Record) → I (set t (placeOf (first s)) r))
+    → I (leftOf (room, t) (within (tableBy rule false) (room, t) s) .1)
+after-call I rule room t s h other =
+    does-left (λ (u : ℕ × List Record). I (u .1)) (λ _. Unit {0}) (room, t) (within (tableBy rule false) (room, t) s) h
+    (within-does (tableBy rule false) I (λ _. Unit {0}) tt (room, t) s
+    (up-calls I (λ _. Unit {0}) tt tt tt rule t s other))
+
+-- what a call up under a rule reads, sends and leaves, by its answer, and that no other record changes
+pub after-up : (rule : Rule) (room : ℕ) (t : List Record) (s : List ℕ)
+    → ByAnswer (room, t) s (within (tableBy rule false) (room, t) s)
+unfolding within
+after-up rule room t s = by-answer room t s (tableBy rule false t s) (up-shape rule t s)
+
+pub other-records : (rule : Rule) (room : ℕ) (t : List Record) (s : List ℕ) (k : ℕ) → (k ≡ placeOf (first s) → ⊥)
+    → getD (leftOf (room, t) (within (tableBy rule false) (room, t) s) .1) k empty ≡ getD t k empty
+other-records rule room t s k n =
+    after-call (λ (u : List Record). getD u k empty ≡ getD t k empty) rule room t s refl
+    (λ r. getD-set-other t (placeOf (first s)) k r empty n)
 
 pub proved-refusals : Refusals
 unfolding within
 proved-refusals =
     record {
-      up = up-answer;
+      up = up-answer openRule;
       down = down-answer;
-      after-up = λ room t s. by-answer room t s (tableUp t s) (up-shape t s);
+      after-up = after-up openRule;
       after-down = λ room s. by-answer room tt s (callDown tt s) (down-shape s);
-      records = λ room t s k n.
-          after-call (λ (u : List Record). getD u k empty ≡ getD t k empty) room t s refl
-          (λ r. getD-set-other t (placeOf (first s)) k r empty n);
+      records = other-records openRule;
       table = λ room t s.
-          after-call (λ (u : List Record). length u ≡ length t) room t s refl (λ r. length-set t (placeOf (first s)) r);
+          after-call (λ (u : List Record). length u ≡ length t) openRule room t s refl
+          (λ r. length-set t (placeOf (first s)) r);
     }

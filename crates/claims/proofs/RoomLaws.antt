@@ -1,6 +1,7 @@
 -- The room of the output. Assumes nothing.
 use Prim.Native.Nat.{ℕ, _*_, _<_, _≤_}
 use mathlib.Core.Path.{_≡_, sym, ap, _∙_}
+use mathlib.Core.Bool.{false}
 use mathlib.Core.List.{List}
 use native.Mathlib.Omega.{arith}
 use lib.ListN.{length}
@@ -12,8 +13,10 @@ use Rattle.stream.specs.Answers.{noRoom}
 use Rattle.stream.specs.Call.{Call, sentOf, within}
 use Rattle.stream.specs.Run.{Ran, run}
 use Rattle.stream.proofs.RunLaws.{Does, ample, bounded, cut-size, roomy, run-does}
+use Rattle.screen.specs.declared.Rule.{Rule}
+use Rattle.screen.specs.Screen.{openRule}
 use Rattle.voice.specs.Packet.{callDown}
-use Rattle.table.specs.Table.{tableUp}
+use Rattle.table.specs.Table.{tableBy}
 use Rattle.claims.specs.Room.{Room, Roomy}
 use Rattle.claims.proofs.StepLaws.{twice-down, down-stops, twice-up, up-stops}
 
@@ -55,9 +58,12 @@ module _
               (λ e. omega (arith, short room t (cut s) e), ample step (cut s) t room (omega arith));
         }
 
+-- and so of a call up under any rule
+pub up-roomy : (rule : Rule) → Roomy (tableBy rule false)
+up-roomy rule =
+    all-roomy (tableBy rule false) (up-stops NotNine (λ e. omega arith) (λ e. omega arith) (λ e. omega arith) rule)
+    (twice-up rule)
+
 pub proved-room : Room
 proved-room =
-    record {
-      up = all-roomy tableUp (up-stops NotNine (λ e. omega arith) (λ e. omega arith) (λ e. omega arith)) twice-up;
-      down = all-roomy callDown (down-stops NotNine (λ e. omega arith)) twice-down;
-    }
+    record { up = up-roomy openRule; down = all-roomy callDown (down-stops NotNine (λ e. omega arith)) twice-down }

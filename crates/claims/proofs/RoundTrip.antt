@@ -20,7 +20,7 @@ use Rattle.stream.specs.Answers.{sent, stopsRun}
 use Rattle.stream.specs.Call.{Call, leftOf, refused, sentOf, stopped, went, within}
 use Rattle.stream.specs.Run.{run}
 use Rattle.stream.proofs.RunLaws.{roomed-sends}
-use Rattle.screen.specs.Screen.{goesOn, screen, screened}
+use Rattle.screen.specs.Screen.{admitted, goesOn, openRule, screen, screenBy, screened}
 use Rattle.screen.proofs.ScreenLaws.{passed}
 use Rattle.memory.specs.declared.Memory.{Memory}
 use Rattle.memory.specs.Memory.{marked, unmarked}
@@ -115,9 +115,9 @@ up-onward t p l w f e =
 
 down-onward : (p : List ℕ) → Whole p → screen voice2 p .answer ≡ goesOn → eqb (messageType (first p)) voice1 ≡ false
     → callDown tt p ≡ went sent p tt
-unfolding callDown packetDown screened screen
+unfolding callDown packetDown screened screenBy admitted
 down-onward p w f e =
-    let x = passed voice2 p f in
+    let x = passed openRule voice2 p f in
     rw (packet-whole p w, x .some, x .free, e, x .status, x .data-fields, x .right)
 
 -- the packets that up can send with such marks, of which all that comes down passes
@@ -274,18 +274,18 @@ module _
 
         passing : passes p ≡ true → Fit (Full marks) (Emit passes marks) (tableUp t s)
         passing q =
-            table-cases (Fit (Full marks) (Emit passes marks)) t s (λ _. tt) (λ _. record {
+            table-cases (Fit (Full marks) (Emit passes marks)) openRule t s (λ _. tt) (λ _. record {
               refuses = λ _.
                   choose (Fit (Full marks) (Emit passes marks)) (stopsRun (screen voice2 p .answer)) (λ _. tt)
                   (λ _. (nothing, full));
               onward = λ f n.
-                  let whole = standing s (has-words voice2 p f) .0 in
+                  let whole = standing s (has-words openRule voice2 p f) .0 in
                   (a-packet whole (onward whole f n q), full);
               unsound = λ _ _ _. tt;
               takes = λ _ _ _ _. (nothing, after);
               sends = λ f e h m says.
                   let x : Upward (marked (r .memory)) m = rw says at (lift-upward (r .memory) h (read1 w) (read1-fits w)) in
-                  let own = ap placeOf (standing s (has-words voice2 p f) .1) in
+                  let own = ap placeOf (standing s (has-words openRule voice2 p f) .1) in
                   let y = rw (full .1 k, own) at x in (
                     a-packet (whole2 (groupOf w) (channelOf w) (omega arith) (omega arith) m x)
                         (spoken (groupOf w) (channelOf w) m (omega arith) (omega arith) y

@@ -1,5 +1,6 @@
 // Theorems about the definitions of the translator. Each stands as a type in specs/ and is proved in
 // proofs/; the functions below do nothing and ensure them, so that a check names each.
+ghost use Rattle.claims.specs.Beginners.{Beginners};
 ghost use Rattle.claims.specs.Lessons.{Lessons};
 ghost use Rattle.claims.specs.Marks.{Marks};
 ghost use Rattle.claims.specs.NormalForm.{NormalForm};
@@ -64,4 +65,9 @@ pub fn soundness()
 // The lesson run is the run up from its table.
 pub fn lessons()
     ensures { λ _. ⌜ Lessons ⌝ }
+{}
+
+// The beginners' room: what is refused there, and that the rest goes up, comes down and goes up again.
+pub fn beginners()
+    ensures { λ _. ⌜ Beginners ⌝ }
 {}

@@ -18,7 +18,7 @@ use Rattle.stream.specs.Answers.{cutPacket, noRoom, sent}
 use Rattle.stream.specs.Call.{Call, refused, sentOf, stopped, went}
 use Rattle.stream.specs.Report.{counting, placeTold, placing}
 use Rattle.stream.proofs.RunLoop.{Inside}
-use Rattle.screen.specs.Screen.{screen, screened}
+use Rattle.screen.specs.Screen.{openRule, screenBy, screened}
 use Rattle.channel.specs.declared.Record.{Record}
 use Rattle.channel.specs.Record.{empty, sound, wholeTable}
 use Rattle.flow.specs.declared.RecordAndReport.{RecordAndReport}
@@ -125,7 +125,7 @@ pub call-made : (d : Done) (ws four : List ℕ) (r : Record) (x : EffectAndRepor
 call-made d ws four r x a e f =
     ap₂ (λ (u : Record) (v : Done). record { after = u; done = v })
     (f ∙ ap (λ (y : EffectAndReport). effected r (y .effect) (y .after) (data1 (getD ws (d .read) 0))) e
-    ∙ effect-at (length four - d .written) (sound r) r ws (d .read))
+    ∙ effect-at openRule (length four - d .written) (sound r) r ws (d .read))
     (ap (λ (y : EffectAndReport). y .done) e)
 
 -- the call that the code makes after the report q
@@ -142,12 +142,12 @@ pub up-few : (r : Record) (s : List ℕ) → length (sentOf (packetUp r (packet 
 up-few r s = few-up r (packet s) (packet-four s)
 
 pub up-cut : (r : Record) (p : List ℕ) → length p ≡ 0 → packetUp r p ≡ stopped cutPacket
-unfolding packetIf screen screened refused
+unfolding packetIf screenBy screened refused
 up-cut r p h = rw (at-none p h)
 
 pub list-near : (t : List Record) (w : ℕ) (s : List ℕ) → listUp t (take (size w) (w ∷ s)) ≡ listUp t (w ∷ s)
 unfolding listUp
-list-near t w s = rw (packet-near w s, table-near false t w s)
+list-near t w s = rw (packet-near w s, table-near openRule false t w s)
 
 listed-inside : {T : Type 0} (p s : List ℕ) (c : Call T) → Inside s c → Inside s (listed p c)
 listed-inside p s (went a ws u) h = h
@@ -155,7 +155,7 @@ listed-inside p s (stopped a) h = tt
 
 pub list-inside : (t : List Record) (w : ℕ) (s : List ℕ) → Inside (w ∷ s) (listUp t (w ∷ s))
 unfolding listUp
-list-inside t w s = listed-inside (packet (w ∷ s)) (w ∷ s) (tableUp t (w ∷ s)) (table-inside false t w s)
+list-inside t w s = listed-inside (packet (w ∷ s)) (w ∷ s) (tableUp t (w ∷ s)) (table-inside openRule false t w s)
 
 listed-stored : (p : List ℕ) (t : List Record) (k : ℕ) (c : Call Record) → listed p (stored t k c) ≡ stored t k (listed p c)
 listed-stored p t k (went a ws r) = refl
@@ -164,7 +164,7 @@ listed-stored p t k (stopped a) = refl
 pub up-own : (ws : List ℕ) (t : List Record) (i : ℕ) → length t ≡ wholeTable
     → tableUp t (drop i ws) ≡ stored t (placeAt ws i) (packetUp (getD t (placeAt ws i) empty) (packet (drop i ws)))
 unfolding callBy
-up-own ws t i l = table-at false ws t i l
+up-own ws t i l = table-at openRule false ws t i l
 
 pub list-own : (ws : List ℕ) (t : List Record) (i : ℕ) → length t ≡ wholeTable
     → listUp t (drop i ws) ≡ stored t (placeAt ws i) (lineUp (getD t (placeAt ws i) empty) (packet (drop i ws)))

@@ -4,6 +4,7 @@ use crate::RecordAndReport;
 use crate::Table;
 use channel::Record;
 use effect::effected;
+use screen::open_rule;
 use stream::Done;
 use stream::NO_ROOM;
 use stream::SENT;
@@ -51,7 +52,7 @@ fn called(words: &[u32], past: Done, record: Record, four: &mut [u32]) -> Record
     ensures output { λ _. ⌜ now (four .exit)
         ≡ outputOf past (now (four .entry)) (packetUp «record» (next (now (words .entry)) past)) ⌝ }
 {
-    let turned = voice::up(words, past, record, false, four);
+    let turned = voice::up(words, past, record, false, four, open_rule());
     let memory = turned.after;
     let key = ump::data1(ump::word_at(words, past.read));
     let after = effected(record, turned.effect, memory, key);

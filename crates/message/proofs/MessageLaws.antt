@@ -21,7 +21,7 @@ pub built : (t : ℕ) (g : Group) (s : ℕ) (c : Channel) (a b : ℕ) → t < 16
 built t g s c a b ht hg hs hc ha hb = omega arith
 
 -- a built word of MT 2 and its two data bytes
-word1 : (s a b : ℕ) (g : Group) (c : Channel) → g .0 < 16 → c .0 < 16 → s < 16 → a ≤ 127 → b ≤ 127
+pub word1 : (s a b : ℕ) (g : Group) (c : Channel) → g .0 < 16 → c .0 < 16 → s < 16 → a ≤ 127 → b ≤ 127
     → (status (voiceWord 2 g s c a b) ≡ s) × (data1 (voiceWord 2 g s c a b) ≡ a) × (data2 (voiceWord 2 g s c a b) ≡ b)
 word1 s a b g c hg hc hs ha hb = omega arith
 

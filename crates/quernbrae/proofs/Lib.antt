@@ -1,3 +1,4 @@
 pub mod Said
 pub mod Asked
 pub mod Marked
+pub mod HandedOn

@@ -15,8 +15,8 @@ use Rattle.stream.specs.Run.{Ran}
 use Rattle.channel.specs.declared.Record.{Record}
 use Rattle.voice.specs.Packet.{callDown, oneDown, packetDown}
 use Rattle.voice.specs.Turn.{next, outputOf, reportOf}
-use Rattle.table.specs.Table.{oneUp, runUp, tableAfter}
-use Rattle.table.specs.Job.{asked, oneCall, tableStep, wholeRun}
+use Rattle.table.specs.Table.{beginnersOneUp, beginnersRunUp, oneUp, runUp, tableAfter}
+use Rattle.table.specs.Job.{asked, beginnersCall, beginnersRun, oneCall, tableStep, wholeRun}
 
 -- of a call or a run that was asked for, and the one that is promised, each with its report
 abbrev pub Told : (Ran (ℕ × List Record) → Done) → Ran (ℕ × List Record) → Ran (ℕ × List Record) → List ℕ → Type 0
@@ -30,6 +30,16 @@ one-said ws tb out = (refl, refl, refl)
 pub run-said : (ws : List ℕ) (tb : List Record) (out : List ℕ) → Told reported (asked wholeRun (length out) tb ws) (runUp (length out) tb ws) out
 unfolding asked tableStep runUp
 run-said ws tb out = (refl, refl, refl)
+
+pub beginners-one-said : (ws : List ℕ) (tb : List Record) (out : List ℕ)
+    → Told (reportedCall (packet ws)) (asked beginnersCall (length out) tb ws) (beginnersOneUp (length out) tb ws) out
+unfolding asked tableStep beginnersOneUp
+beginners-one-said ws tb out = (refl, refl, refl)
+
+pub beginners-run-said : (ws : List ℕ) (tb : List Record) (out : List ℕ)
+    → Told reported (asked beginnersRun (length out) tb ws) (beginnersRunUp (length out) tb ws) out
+unfolding asked tableStep beginnersRunUp
+beginners-run-said ws tb out = (refl, refl, refl)
 
 pub down-said : (ws out : List ℕ) → let p = next ws nothingYet in
     (reportOf nothingYet p out (packetDown p) ≡ reportedCall (packet ws) (oneDown (length out) ws))

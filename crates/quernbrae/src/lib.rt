@@ -18,7 +18,7 @@ ghost use Rattle.question.specs.Question.{keysAsked};
 ghost use Rattle.mark.specs.Mark.{markAnswer, tableMarked};
 ghost use Rattle.lesson.specs.Lesson.{lesson, lessonReport};
 ghost use Rattle.voice.specs.Packet.{oneDown, runDown};
-ghost use Rattle.table.specs.Table.{oneUp, runUp, tableAfter};
+ghost use Rattle.table.specs.Table.{beginnersOneUp, beginnersRunUp, oneUp, runUp, tableAfter};
 
 // An empty record.
 #[no_mangle]
@@ -52,6 +52,42 @@ pub extern "C" fn quernbrae_run_up(words: &[u32], table: &mut [Record], out: &mu
         (runUp (length (now (out .entry))) (now (table .entry)) (now (words .entry)) .sends) (now (out .entry)) ⌝ }
 {
     treat(words, table::whole_run(), table, out)
+}
+
+// One call up in the beginners' room, where only some packets may pass.
+#[no_mangle]
+pub extern "C" fn quernbrae_beginners_up(
+    words: &[u32],
+    table: &mut [Record],
+    out: &mut [u32],
+) -> Done
+    ensures report { λ r. ⌜ r ≡ reportedCall (packet (now (words .entry)))
+        (beginnersOneUp (length (now (out .entry))) (now (table .entry)) (now (words .entry))) ⌝ }
+    ensures table { λ _. ⌜ now (table .exit)
+        ≡ tableAfter (beginnersOneUp (length (now (out .entry))) (now (table .entry)) (now (words .entry))) ⌝ }
+    ensures output { λ _. ⌜ now (out .exit) ≡ atStart
+        (beginnersOneUp (length (now (out .entry))) (now (table .entry)) (now (words .entry)) .sends)
+        (now (out .entry)) ⌝ }
+{
+    treat(words, table::beginners_call(), table, out)
+}
+
+// A run up in the beginners' room.
+#[no_mangle]
+pub extern "C" fn quernbrae_beginners_run_up(
+    words: &[u32],
+    table: &mut [Record],
+    out: &mut [u32],
+) -> Done
+    ensures report { λ r. ⌜ r
+        ≡ reported (beginnersRunUp (length (now (out .entry))) (now (table .entry)) (now (words .entry))) ⌝ }
+    ensures table { λ _. ⌜ now (table .exit)
+        ≡ tableAfter (beginnersRunUp (length (now (out .entry))) (now (table .entry)) (now (words .entry))) ⌝ }
+    ensures output { λ _. ⌜ now (out .exit) ≡ atStart
+        (beginnersRunUp (length (now (out .entry))) (now (table .entry)) (now (words .entry)) .sends)
+        (now (out .entry)) ⌝ }
+{
+    treat(words, table::beginners_run(), table, out)
 }
 
 // A lesson: a run up over a table of its own, empty but for the marks of `coarse`.

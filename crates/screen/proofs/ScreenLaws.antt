@@ -1,5 +1,5 @@
 -- Laws of the screening: a MIDI 1.0 voice message is screened by its one word; only a cut packet is refused by an answer
--- that stops a run; the place goes with the answer; what passes. Assumes nothing.
+-- that stops a run; the place goes with the answer; what passes, also under a rule. Assumes nothing.
 use mathlib.Core.Path.{_≡_, refl}
 use mathlib.Core.Bool.{Bool, true, false, cond, not}
 use mathlib.Core.List.{List, [], _∷_}
@@ -12,70 +12,88 @@ use Rattle.ground.proofs.Cases.{choose, not-both}
 use Rattle.ump.specs.Word.{messageType, voice2}
 use Rattle.ump.specs.Packet.{first, second}
 use Rattle.ump.proofs.PacketLaws.{at-none}
-use Rattle.stream.specs.Answers.{badData, badStatus, cutPacket, reservedType, stopsRun, takenIn, wrongProtocol}
+use Rattle.stream.specs.Answers.{badData, badStatus, cutPacket, notForRoom, reservedType, stopsRun, takenIn}
+use Rattle.stream.specs.Answers.{wrongProtocol}
 use Rattle.stream.specs.Call.{Call, refused}
 use Rattle.stream.specs.Report.{placeTold}
+use Rattle.screen.specs.declared.Rule.{Rule}
 use Rattle.screen.specs.declared.Screened.{Screened}
 use Rattle.fields.specs.Check.{Field, badPlace, badPlaceOf, checkedFields, goodFields, goodStatus, voice1Fields}
 use Rattle.fields.specs.Check.{voice1Status}
-use Rattle.screen.specs.Screen.{answering, checkVoice1, checking, goesOn, reserved, screen, screened}
+use Rattle.screen.specs.Screen.{admitted, answering, beginnersRule, checkVoice1, checking, forBeginners}
+use Rattle.screen.specs.Screen.{goesOn, reserved, screen, screenBy, screened}
 
 -- a MIDI 1.0 voice message, going up
-pub screen-voice1 : (w : ℕ) → messageType w ≡ 2 → screen voice2 (w ∷ []) ≡ checkVoice1 w
-unfolding screen goodStatus checkedFields checkVoice1
-screen-voice1 w h = rw h
+pub screen-voice1 : (rule : Rule) (w : ℕ) → messageType w ≡ 2 → screenBy rule voice2 (w ∷ []) ≡ checkVoice1 rule w
+unfolding screenBy goodStatus checkedFields checkVoice1
+screen-voice1 rule w h = rw h
+
+-- what a good packet is answered with goes on, or is not for this room
+admits : (P : ℕ → Type 0) (rule : Rule) (w : ℕ) → P goesOn → P notForRoom → P (admitted rule w)
+unfolding admitted
+admits P rule w on room =
+    choose P (rule .beginners) (λ _. choose P (forBeginners w) (λ _. on) (λ _. room)) (λ _. on)
 
 -- what holds of every answer of the check holds of it, and so of the screening
-checks : (P : Screened → Type 0) (b : Bool) (fs : List Field) → P (answering badStatus)
+checks : (P : Screened → Type 0) (b : Bool) (fs : List Field) (rule : Rule) (w : ℕ) → P (answering badStatus)
     → ((badPlace fs ≡ 0 → ⊥) → P (record { answer = badData; place = badPlace fs }))
-    → P (answering goesOn) → P (checking b fs)
-checks P b fs status fields good =
+    → P (answering notForRoom)
+    → P (answering goesOn) → P (checking b fs (admitted rule w))
+checks P b fs rule w status fields room good =
     choose P (not b) (λ _. status)
-    (λ _. choose P (eqb (badPlace fs) 0) (λ _. good) (λ e. fields (eqb-false (badPlace fs) 0 e)))
+    (λ _. choose P (eqb (badPlace fs) 0) (λ _. admits (λ (a : ℕ). P (answering a)) rule w good room)
+    (λ e. fields (eqb-false (badPlace fs) 0 e)))
 
-screens : (P : Screened → Type 0) (wrong : ℕ) (p : List ℕ) → (p ≡ [] → P (answering cutPacket))
+screens : (P : Screened → Type 0) (rule : Rule) (wrong : ℕ) (p : List ℕ) → (p ≡ [] → P (answering cutPacket))
     → P (answering reservedType) → P (answering wrongProtocol) → P (answering badStatus)
     → ((badPlaceOf p ≡ 0 → ⊥) → P (record { answer = badData; place = badPlaceOf p }))
-    → P (answering goesOn) → P (screen wrong p)
-unfolding screen
-screens P wrong p none reserved-type protocol status fields good =
+    → P (answering notForRoom)
+    → P (answering goesOn) → P (screenBy rule wrong p)
+unfolding screenBy
+screens P rule wrong p none reserved-type protocol status fields room good =
     choose P (eqb (length p) 0) (λ e. none (at-none p (eqb-true (length p) 0 e)))
     (λ _. choose P (reserved (messageType (first p))) (λ _. reserved-type)
     (λ _. choose P (eqb (messageType (first p)) wrong) (λ _. protocol)
-    (λ _. checks P (goodStatus (first p)) (checkedFields (first p) (second p)) status fields good)))
+    (λ _. checks P (goodStatus (first p)) (checkedFields (first p) (second p)) rule (first p) status fields room good)))
 
 -- the place goes with the answer
-pub screen-place : (wrong : ℕ) (p : List ℕ) → screen wrong p .place ≡ placeTold (screen wrong p .answer) p
-screen-place wrong p =
-    screens (λ (s : Screened). s .place ≡ placeTold (s .answer) p) wrong p
-    (λ _. refl) refl refl refl (λ _. refl) refl
+pub screen-place : (rule : Rule) (wrong : ℕ) (p : List ℕ)
+    → screenBy rule wrong p .place ≡ placeTold (screenBy rule wrong p .answer) p
+screen-place rule wrong p =
+    screens (λ (s : Screened). s .place ≡ placeTold (s .answer) p) rule wrong p
+    (λ _. refl) refl refl refl (λ _. refl) refl refl
 
-pub check-place : (w : ℕ) → messageType w ≡ 2 → checkVoice1 w .place ≡ placeTold (checkVoice1 w .answer) (w ∷ [])
-check-place w h = rw (screen-voice1 w h) at (screen-place voice2 (w ∷ []))
+pub check-place : (rule : Rule) (w : ℕ) → messageType w ≡ 2
+    → checkVoice1 rule w .place ≡ placeTold (checkVoice1 rule w .answer) (w ∷ [])
+check-place rule w h = rw (screen-voice1 rule w h) at (screen-place rule voice2 (w ∷ []))
 
 -- only where no packet is whole does the screening stop a run
-pub cut-only : (wrong : ℕ) (p : List ℕ) → stopsRun (screen wrong p .answer) ≡ true → p ≡ []
-cut-only wrong p =
-    screens (λ (s : Screened). stopsRun (s .answer) ≡ true → p ≡ []) wrong p
-    (λ e _. e) not-both not-both not-both (λ _. not-both) not-both
+pub cut-only : (rule : Rule) (wrong : ℕ) (p : List ℕ) → stopsRun (screenBy rule wrong p .answer) ≡ true → p ≡ []
+cut-only rule wrong p =
+    screens (λ (s : Screened). stopsRun (s .answer) ≡ true → p ≡ []) rule wrong p
+    (λ e _. e) not-both not-both not-both (λ _. not-both) not-both not-both
 
-pub check-goes-on : (w : ℕ) → stopsRun (checkVoice1 w .answer) ≡ false
+pub check-goes-on : (rule : Rule) (w : ℕ) → stopsRun (checkVoice1 rule w .answer) ≡ false
 unfolding checkVoice1
-check-goes-on w =
-    checks (λ (s : Screened). stopsRun (s .answer) ≡ false) (voice1Status w) (voice1Fields w) refl (λ _. refl) refl
+check-goes-on rule w =
+    checks (λ (s : Screened). stopsRun (s .answer) ≡ false) (voice1Status w) (voice1Fields w) rule w
+    refl (λ _. refl) refl refl
 
 -- a refusal is neither `sent` nor `takenIn`
 abbrev Above : Screened → Type 0
 Above s = (s .answer ≡ goesOn → ⊥) → leb (s .answer) takenIn ≡ false
 
-pub refused-above : (wrong : ℕ) (p : List ℕ) → (screen wrong p .answer ≡ goesOn → ⊥)
-    → leb (screen wrong p .answer) takenIn ≡ false
-refused-above wrong p =
-    screens Above wrong p (λ _ _. refl) (λ _. refl) (λ _. refl) (λ _. refl) (λ _ _. refl) (λ n. absurd (n refl))
+pub refused-above : (rule : Rule) (wrong : ℕ) (p : List ℕ) → (screenBy rule wrong p .answer ≡ goesOn → ⊥)
+    → leb (screenBy rule wrong p .answer) takenIn ≡ false
+refused-above rule wrong p =
+    screens Above rule wrong p (λ _ _. refl) (λ _. refl) (λ _. refl) (λ _. refl) (λ _ _. refl) (λ _. refl)
+    (λ n. absurd (n refl))
 
-pub check-above : (w : ℕ) → (checkVoice1 w .answer ≡ goesOn → ⊥) → leb (checkVoice1 w .answer) takenIn ≡ false
+pub check-above : (rule : Rule) (w : ℕ) → (checkVoice1 rule w .answer ≡ goesOn → ⊥)
+    → leb (checkVoice1 rule w .answer) takenIn ≡ false
 unfolding checkVoice1
-check-above w = checks Above (voice1Status w) (voice1Fields w) (λ _. refl) (λ _ _. refl) (λ n. absurd (n refl))
+check-above rule w =
+    checks Above (voice1Status w) (voice1Fields w) rule w (λ _. refl) (λ _ _. refl) (λ _. refl) (λ n. absurd (n refl))
 
 -- a packet that goes on is no empty part, and nothing is wrong with it
 pub record Passed (wrong : ℕ) (p : List ℕ) : Type 0 where
@@ -85,9 +103,9 @@ pub record Passed (wrong : ℕ) (p : List ℕ) : Type 0 where
   pub status : goodStatus (first p) ≡ true
   pub data-fields : goodFields (checkedFields (first p) (second p)) ≡ true
 
-pub passed : (wrong : ℕ) (p : List ℕ) → screen wrong p .answer ≡ goesOn → Passed wrong p
-unfolding screen
-passed wrong p =
+pub passed : (rule : Rule) (wrong : ℕ) (p : List ℕ) → screenBy rule wrong p .answer ≡ goesOn → Passed wrong p
+unfolding screenBy
+passed rule wrong p =
     go (eqb (length p) 0) (reserved (messageType (first p))) (eqb (messageType (first p)) wrong) (goodStatus (first p))
     (goodFields (checkedFields (first p) (second p))) refl refl refl refl refl
   where
@@ -95,7 +113,8 @@ passed wrong p =
         → eqb (messageType (first p)) wrong ≡ c
         → goodStatus (first p) ≡ d → goodFields (checkedFields (first p) (second p)) ≡ e
         → cond a (answering cutPacket) (cond b (answering reservedType) (cond c (answering wrongProtocol)
-        (cond (not d) (answering badStatus) (cond e (answering goesOn) (record { answer = badData; place = badPlaceOf p })))))
+        (cond (not d) (answering badStatus)
+        (cond e (answering (admitted rule (first p))) (record { answer = badData; place = badPlaceOf p })))))
         .answer ≡ goesOn
         → Passed wrong p
     go true b c d e x y z v u h = absurd (omega (arith, h))
@@ -104,6 +123,27 @@ passed wrong p =
     go false false false false e x y z v u h = absurd (omega (arith, h))
     go false false false true false x y z v u h = absurd (omega (arith, h))
     go false false false true true x y z v u h = record { some = x; free = y; right = z; status = v; data-fields = u }
+
+-- under the beginners' rule what is for that room is screened as without a rule; and what is not goes nowhere
+pub for-room : (wrong : ℕ) (p : List ℕ) → forBeginners (first p) ≡ true → screenBy beginnersRule wrong p ≡ screen wrong p
+unfolding screenBy admitted
+for-room wrong p e = rw e
+
+pub not-for-room : (wrong : ℕ) (p : List ℕ) → forBeginners (first p) ≡ false
+    → screenBy beginnersRule wrong p .answer ≡ goesOn → ⊥
+unfolding screenBy admitted
+not-for-room wrong p n =
+    rw n (choose Refuses (eqb (length p) 0) (λ _. no cutPacket refl)
+    (λ _. choose Refuses (reserved (messageType (first p))) (λ _. no reservedType refl)
+    (λ _. choose Refuses (eqb (messageType (first p)) wrong) (λ _. no wrongProtocol refl)
+    (λ _. choose Refuses (not (goodStatus (first p))) (λ _. no badStatus refl)
+    (λ _. choose Refuses (eqb (badPlaceOf p) 0) (λ _. no notForRoom refl) (λ _. no badData refl))))))
+  where
+    Refuses : Screened → Type 0
+    Refuses s = s .answer ≡ goesOn → ⊥
+
+    no : (a : ℕ) → eqb a goesOn ≡ false → a ≡ goesOn → ⊥
+    no a e = eqb-false a goesOn e
 
 -- a screened call is the act, or one refusal
 pub screened-cases : {T : Type 0} (P : Call T → Type 0) (s : Screened) (t : T) (act : Call T)

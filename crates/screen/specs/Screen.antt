@@ -1,13 +1,14 @@
--- The screening of a packet: the refusals before the act, in the order of RULES 3.2.
+-- The screening of a packet: the refusals before the act, in the order of RULES 3.2, with the rule of a room.
 use Prim.Native.Nat.{ℕ}
-use mathlib.Core.Bool.{Bool, cond, not, _&&_, _||_}
+use mathlib.Core.Bool.{Bool, true, false, cond, not, _&&_, _||_}
 use mathlib.Core.List.{List}
 use lib.ListN.{length}
 use lib.Dec.{eqb, leb}
-use Rattle.ump.specs.Word.{messageType}
+use Rattle.ump.specs.Word.{data1, messageType, status, voice1}
 use Rattle.ump.specs.Packet.{first, second}
-use Rattle.stream.specs.Answers.{badData, badStatus, cutPacket, reservedType, wrongProtocol}
+use Rattle.stream.specs.Answers.{badData, badStatus, cutPacket, notForRoom, reservedType, wrongProtocol}
 use Rattle.stream.specs.Call.{Call, refused}
+use Rattle.screen.specs.declared.Rule.{Rule}
 use Rattle.screen.specs.declared.Screened.{Screened}
 use Rattle.fields.specs.Check.{Field, badPlace, checkedFields, goodStatus, voice1Fields, voice1Status}
 
@@ -19,30 +20,57 @@ answering a = record { answer = a; place = 0 }
 abbrev pub goesOn : ℕ
 goesOn = 0
 
--- by the place of the first bad field; 0 is no place
-abbrev pub placed : ℕ → Screened
-placed k = cond (eqb k 0) (answering goesOn) (record { answer = badData; place = k })
+-- The rules: none is asked of a packet beyond the check, and that of the beginners' room (RULES 2.5; 02 M-113).
+abbrev pub openRule : Rule
+openRule = record { beginners = false }
+
+abbrev pub beginnersRule : Rule
+beginnersRule = record { beginners = true }
+
+-- the controllers of that room
+abbrev pub beginnersController : ℕ → Bool
+beginnersController i = eqb i 1 || eqb i 7 || eqb i 64 || eqb i 120 || eqb i 121 || eqb i 123
+
+-- what passes there of all that is good, by its first word: MT 0, notes, bend and those controllers
+unfoldable pub forBeginners : ℕ → Bool
+forBeginners w =
+    eqb (messageType w) 0
+    || (eqb (messageType w) voice1
+    && (eqb (status w) 8 || eqb (status w) 9 || eqb (status w) 14
+    || (eqb (status w) 11 && beginnersController (data1 w))))
+
+-- what a good packet is answered with under a rule
+unfoldable pub admitted : Rule → ℕ → ℕ
+admitted rule w = cond (rule .beginners) (cond (forBeginners w) goesOn notForRoom) goesOn
+
+-- by the place of the first bad field; 0 is no place, and then all is good
+abbrev pub placed : ℕ → ℕ → Screened
+placed k good = cond (eqb k 0) (answering good) (record { answer = badData; place = k })
 
 -- the message types that are reserved (RULES 2.1; 01 "Packet sizes, in 32-bit words")
 abbrev pub reserved : ℕ → Bool
 reserved t = (leb 6 t && leb t 12) || eqb t 14
 
--- the check: the status first, and then the fields
-abbrev pub checking : Bool → List Field → Screened
-checking statusGood fs = cond (not statusGood) (answering badStatus) (placed (badPlace fs))
+-- the check: the status first, and then the fields; `good` is the answer where nothing is bad
+abbrev pub checking : Bool → List Field → ℕ → Screened
+checking statusGood fs good = cond (not statusGood) (answering badStatus) (placed (badPlace fs) good)
 
 -- Of a packet, or of the empty part where none is whole; `wrong` is the message type of the other protocol's voice
 -- messages.
-unfoldable pub screen : ℕ → List ℕ → Screened
-screen wrong p =
+unfoldable pub screenBy : Rule → ℕ → List ℕ → Screened
+screenBy rule wrong p =
     cond (eqb (length p) 0) (answering cutPacket)
     (cond (reserved (messageType (first p))) (answering reservedType)
     (cond (eqb (messageType (first p)) wrong) (answering wrongProtocol)
-    (checking (goodStatus (first p)) (checkedFields (first p) (second p)))))
+    (checking (goodStatus (first p)) (checkedFields (first p) (second p)) (admitted rule (first p)))))
+
+-- where no rule holds
+abbrev pub screen : ℕ → List ℕ → Screened
+screen = screenBy openRule
 
 -- the same of a packet that is known to be a MIDI 1.0 voice message, by its one word
-unfoldable pub checkVoice1 : ℕ → Screened
-checkVoice1 w = checking (voice1Status w) (voice1Fields w)
+unfoldable pub checkVoice1 : Rule → ℕ → Screened
+checkVoice1 rule w = checking (voice1Status w) (voice1Fields w) (admitted rule w)
 
 -- what a packet does in the state t, once it is screened: it is refused, or it acts
 unfoldable pub screened : {T : Type 0} → Screened → T → Call T → Call T

@@ -1,18 +1,22 @@
 // The screening of a packet: whatever can refuse it before it acts, in one place for both
 // directions. It asks the type (answers 3, 4 and 5), then the status (6), then the fields in packet
-// order (7), and needs no channel record.
+// order (7), then the rule of the room (23), and needs no channel record.
 //
 // Every function is total, and says what it finds by a definition of specs/.
 use stream::BAD_DATA;
 use stream::BAD_STATUS;
 use stream::CUT;
+use stream::NOT_FOR_ROOM;
 use stream::RESERVED;
 use stream::WRONG_PROTOCOL;
+use ump::MIDI1_VOICE;
 use ump::message_type;
 use ump::word_at;
 ghost use mathlib.Core.Path.{_≡_};
 ghost use Rattle.fields.specs.Check.{checkedFields, goodStatus};
-ghost use Rattle.screen.specs.Screen.{answering, checkVoice1, checking, placed, reserved};
+ghost use Rattle.screen.specs.Screen.{admitted, answering, beginnersController};
+ghost use Rattle.screen.specs.Screen.{checkVoice1, checking, forBeginners, openRule, placed};
+ghost use Rattle.screen.specs.Screen.{reserved, screenBy};
 ghost use Rattle.screen.specs.Screen;
 
 // What the screening finds of a packet: the answer that refuses it, or `GOES_ON`; and the place of the
@@ -25,10 +29,54 @@ pub struct Screened {
 // The packet goes on to the act.
 pub const GOES_ON: u32 = 0;
 
+// What is asked of a good packet besides: whether it is for the beginners' room.
+pub struct Rule {
+    pub beginners: bool,
+}
+
+// Nothing is asked besides.
+pub fn open_rule() -> Rule
+    ensures { λ r. ⌜ r ≡ openRule ⌝ }
+{
+    Rule { beginners: false }
+}
+
 fn is_reserved(t: u32) -> bool
     ensures { λ r. ⌜ r ≡ reserved t ⌝ }
 {
     ((6 <= t) & (t <= 12)) | (t == 14)
+}
+
+fn is_beginners_controller(i: u8) -> bool
+    ensures { λ r. ⌜ r ≡ beginnersController i ⌝ }
+{
+    (i == 1) | (i == 7) | (i == 64) | (i == 120) | (i == 121) | (i == 123)
+}
+
+// Whether a good packet is for the beginners' room, by its first word.
+fn is_for_beginners(w: u32) -> bool
+    ensures { λ r. ⌜ r ≡ forBeginners w ⌝ }
+{
+    let t = message_type(w);
+    let s = ump::status(w);
+    let listed = is_beginners_controller(ump::data1(w));
+    let voice = (s == 8) | (s == 9) | (s == 14) | ((s == 11) & listed);
+    (t == 0) | ((t == MIDI1_VOICE) & voice)
+}
+
+// What a good packet is answered with under a rule.
+fn admit(rule: Rule, w: u32) -> u32
+    ensures { λ r. ⌜ r ≡ admitted rule w ⌝ }
+{
+    if rule.beginners {
+        if is_for_beginners(w) {
+            GOES_ON
+        } else {
+            NOT_FOR_ROOM
+        }
+    } else {
+        GOES_ON
+    }
 }
 
 fn finding(answer: u32) -> Screened
@@ -37,12 +85,12 @@ fn finding(answer: u32) -> Screened
     Screened { answer, place: 0 }
 }
 
-// By the place of the first bad field.
-fn finding_place(place: u32) -> Screened
-    ensures { λ r. ⌜ r ≡ placed place ⌝ }
+// By the place of the first bad field, and the answer where there is none.
+fn finding_place(place: u32, good: u32) -> Screened
+    ensures { λ r. ⌜ r ≡ placed place good ⌝ }
 {
     if place == 0 {
-        finding(GOES_ON)
+        finding(good)
     } else {
         Screened {
             answer: BAD_DATA,
@@ -52,11 +100,11 @@ fn finding_place(place: u32) -> Screened
 }
 
 // A packet by its first two words, the second 0 where it has one word.
-fn check(w: u32, v: u32) -> Screened
-    ensures { λ r. ⌜ r ≡ checking (goodStatus w) (checkedFields w v) ⌝ }
+fn check(rule: Rule, w: u32, v: u32) -> Screened
+    ensures { λ r. ⌜ r ≡ checking (goodStatus w) (checkedFields w v) (admitted rule w) ⌝ }
 {
     if fields::is_good_status(w) {
-        finding_place(fields::bad_place(w, v))
+        finding_place(fields::bad_place(w, v), admit(rule, w))
     } else {
         finding(BAD_STATUS)
     }
@@ -64,14 +112,14 @@ fn check(w: u32, v: u32) -> Screened
 
 // A MIDI 1.0 voice message by its one word: the check that the translation upward asks most. The place
 // is worked out only where a field is bad.
-pub fn check_voice1(w: u32) -> Screened
-    ensures { λ r. ⌜ r ≡ checkVoice1 w ⌝ }
+pub fn check_voice1(rule: Rule, w: u32) -> Screened
+    ensures { λ r. ⌜ r ≡ checkVoice1 rule w ⌝ }
 {
     if fields::is_voice1_status(w) {
         if fields::is_good_voice1(w) {
-            finding(GOES_ON)
+            finding(admit(rule, w))
         } else {
-            finding_place(fields::bad_place_voice1(w))
+            finding_place(fields::bad_place_voice1(w), admit(rule, w))
         }
     } else {
         finding(BAD_STATUS)
@@ -79,9 +127,9 @@ pub fn check_voice1(w: u32) -> Screened
 }
 
 // A packet, or the empty part where none is whole, where voice messages of the type `wrong` are
-// refused.
-pub fn screen(wrong: u32, packet: &[u32]) -> Screened
-    ensures { λ r. ⌜ r ≡ Screen.screen wrong (now (packet .entry)) ⌝ }
+// refused, under a rule.
+pub fn screen_by(rule: Rule, wrong: u32, packet: &[u32]) -> Screened
+    ensures { λ r. ⌜ r ≡ screenBy rule wrong (now (packet .entry)) ⌝ }
 {
     if packet.len() == 0 {
         return finding(CUT);
@@ -94,5 +142,12 @@ pub fn screen(wrong: u32, packet: &[u32]) -> Screened
     if t == wrong {
         return finding(WRONG_PROTOCOL);
     }
-    check(w, word_at(packet, 1))
+    check(rule, w, word_at(packet, 1))
+}
+
+// The same where no rule holds.
+pub fn screen(wrong: u32, packet: &[u32]) -> Screened
+    ensures { λ r. ⌜ r ≡ Screen.screen wrong (now (packet .entry)) ⌝ }
+{
+    screen_by(open_rule(), wrong, packet)
 }

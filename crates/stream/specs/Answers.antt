@@ -36,6 +36,10 @@ noRoom = 9
 abbrev pub noTable : ℕ
 noTable = 10
 
+-- good, but not for this room (02 M-113)
+abbrev pub notForRoom : ℕ
+notForRoom = 23
+
 -- the four that stop a run: nothing was read (RULES 4)
 abbrev pub stopsRun : ℕ → Bool
 stopsRun a = eqb a cutPacket || eqb a notSound || eqb a noRoom || eqb a noTable

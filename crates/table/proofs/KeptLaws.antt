@@ -7,21 +7,23 @@ use lib.Dec.{eqb}
 use lib.ListN.{getD, length, length-replicate, replicate, set}
 use Rattle.ground.specs.Lists.{All}
 use Rattle.ground.proofs.Cases.{choose}
-use Rattle.ump.specs.Word.{placeOf}
+use Rattle.ump.specs.Word.{messageType, placeOf, voice1, voice2}
 use Rattle.ump.specs.Packet.{cut, first, packet}
 use Rattle.stream.specs.Answers.{cutPacket, noRoom, noTable, notSound, sent}
 use Rattle.stream.specs.Call.{Call, stopped, went, within}
 use Rattle.stream.specs.Claims.{Made, calls, thenCalls}
 use Rattle.stream.specs.Run.{Ran}
 use Rattle.stream.proofs.RunLaws.{Does, does-left, run-does, within-does}
+use Rattle.screen.specs.declared.Rule.{Rule}
+use Rattle.screen.specs.Screen.{goesOn, screenBy}
 use Rattle.channel.specs.declared.Record.{Record}
 use Rattle.channel.specs.Record.{EmptyButMarks, empty, fresh, sound, wholeTable}
 use Rattle.memory.proofs.Sound.{proved-stays-sound}
 use Rattle.message.specs.Message.{read1}
 use Rattle.lift.specs.Played.{recordAfter}
-use Rattle.voice.specs.Packet.{callBy, callUp}
+use Rattle.voice.specs.Packet.{callBy}
 use Rattle.voice.proofs.PacketLaws.{up-does}
-use Rattle.table.specs.Table.{SoundTable, oneUp, runUp, stored, tableAfter, tableBy, tableUp}
+use Rattle.table.specs.Table.{SoundTable, oneBy, runBy, stored, tableAfter, tableBy}
 
 -- what holds of each record at its place, and of one that replaces one
 pub at-set : (P : ℕ → Record → Type 0) (t : List Record) (k : ℕ) (r : Record) → P k r → ((j : ℕ) → P j (getD t j empty))
@@ -48,12 +50,13 @@ marked-sound t m k =
 
 -- what a call with the table leaves, if it goes on, and what it stops with, by what the call with the packet's own
 -- record does
-pub table-does : (I : List Record → Type 0) (A : ℕ → Type 0) (t : List Record) (s : List ℕ) → A noTable
-    → Does (λ (x : Record). I (set t (placeOf (first s)) x)) A (callUp (getD t (placeOf (first s)) empty) s)
-    → Does I A (tableUp t s)
+pub table-does : (I : List Record → Type 0) (A : ℕ → Type 0) (rule : Rule) (t : List Record) (s : List ℕ) → A noTable
+    → Does (λ (x : Record). I (set t (placeOf (first s)) x)) A (callBy rule false (getD t (placeOf (first s)) empty) s)
+    → Does I A (tableBy rule false t s)
 unfolding tableBy
-table-does I A t s ten d =
-    choose (Does I A) (eqb (length t) wholeTable) (λ _. go (callUp (getD t (placeOf (first s)) empty) s) d) (λ _. ten)
+table-does I A rule t s ten d =
+    choose (Does I A) (eqb (length t) wholeTable)
+    (λ _. go (callBy rule false (getD t (placeOf (first s)) empty) s) d) (λ _. ten)
   where
     go : (c : Call Record) → Does (λ (x : Record). I (set t (placeOf (first s)) x)) A c
         → Does I A (stored t (placeOf (first s)) c)
@@ -67,24 +70,30 @@ Each P t = (k : ℕ) → P k (getD t k empty)
 abbrev pub Keeps : (ℕ → Record → Type 0) → (ℕ → Type 0) → Call (ℕ × List Record) → Type 0
 Keeps P A = Does (λ (u : ℕ × List Record). Each P (u .1)) A
 
--- What every message keeps of a record at its place, each call and each run keeps of the table. They stop with 3, 9 and
--- 10, and with 8 only at a record that is not sound.
+-- What every message that passes a rule keeps of a record at its place, each call and each run under it keeps of the
+-- table. They stop with 3, 9 and 10, and with 8 only at a record that is not sound.
 module _
+    (rule : Rule)
     (P : ℕ → Record → Type 0)
     (A : ℕ → Type 0)
     (three : A cutPacket)
     (nine : A noRoom)
     (ten : A noTable)
     (eight : (k : ℕ) (r : Record) → P k r → sound r ≡ false → A notSound)
-    (kept : (k : ℕ) (r : Record) (w : ℕ) → sound r ≡ true → P k r → P k (recordAfter r (read1 w)))
+    (kept : (k : ℕ) (r : Record) (p : List ℕ) → screenBy rule voice2 p .answer ≡ goesOn
+    → eqb (messageType (first p)) voice1 ≡ true
+    → sound r ≡ true → P k r → P k (recordAfter r (read1 (first p))))
   where
-    pub call-keeps : (u : ℕ × List Record) (s : List ℕ) → Each P (u .1) → Keeps P A (within tableUp u s)
+    abbrev step : List Record → List ℕ → Call (List Record)
+    step = tableBy rule false
+
+    pub call-keeps : (u : ℕ × List Record) (s : List ℕ) → Each P (u .1) → Keeps P A (within step u s)
     unfolding callBy
     call-keeps u s h =
-        within-does tableUp (Each P) A nine u s
-        (table-does (Each P) A t s ten
-        (up-does (λ (x : Record). Each P (set t k x)) A r (packet s) (keep r (h k)) three (eight k r (h k))
-        (λ ok. keep _ (kept k r _ ok (h k)))))
+        within-does step (Each P) A nine u s
+        (table-does (Each P) A rule t s ten
+        (up-does (λ (x : Record). Each P (set t k x)) A rule r (packet s) (keep r (h k)) three (eight k r (h k))
+        (λ f v ok. keep _ (kept k r (packet s) f v ok (h k)))))
       where
         t : List Record
         t = u .1
@@ -101,32 +110,30 @@ module _
     -- so do all calls of a run, said in any words
     pub calls-keep : (Q : Call (ℕ × List Record) → Type 0) → ((c : Call (ℕ × List Record)) → Keeps P A c → Q c)
         → (ps : List (List ℕ)) (u : ℕ × List Record) → Each P (u .1)
-        → All (λ (m : Made (ℕ × List Record)). Q (m .call)) (calls (within tableUp) u ps)
+        → All (λ (m : Made (ℕ × List Record)). Q (m .call)) (calls (within step) u ps)
     unfolding calls
     calls-keep Q said [] u h = tt
     calls-keep Q said (p ∷ ps) u h =
         let d = call-keeps u p h in
-        (said (within tableUp u p) d, go (λ v. calls-keep Q said ps v) (within tableUp u p) d)
+        (said (within step u p) d, go (λ v. calls-keep Q said ps v) (within step u p) d)
       where
         go : ((v : ℕ × List Record) → Each P (v .1)
-            → All (λ (m : Made (ℕ × List Record)). Q (m .call)) (calls (within tableUp) v ps)) → (c : Call (ℕ × List Record))
+            → All (λ (m : Made (ℕ × List Record)). Q (m .call)) (calls (within step) v ps)) → (c : Call (ℕ × List Record))
             → Keeps P A c
-            → All (λ (m : Made (ℕ × List Record)). Q (m .call)) (thenCalls c (λ v. calls (within tableUp) v ps))
+            → All (λ (m : Made (ℕ × List Record)). Q (m .call)) (thenCalls c (λ v. calls (within step) v ps))
         go ih (went a ws v) d = ih v d
         go ih (stopped a) d = tt
 
     -- the table after one call
-    pub one-keeps : (room : ℕ) (t : List Record) (s : List ℕ) → Each P t → Each P (tableAfter (oneUp room t s))
-    unfolding oneUp
+    pub one-keeps : (room : ℕ) (t : List Record) (s : List ℕ) → Each P t → Each P (tableAfter (oneBy step room t s))
     one-keeps room t s h =
-        does-left (λ (u : ℕ × List Record). Each P (u .1)) A (room, t) (within tableUp (room, t) s) h
+        does-left (λ (u : ℕ × List Record). Each P (u .1)) A (room, t) (within step (room, t) s) h
         (call-keeps (room, t) s h)
 
     -- the table after a run, and its answer
     pub run-keeps : A sent → (room : ℕ) (t : List Record) (s : List ℕ) → Each P t
-        → Each P (tableAfter (runUp room t s)) × A (runUp room t s .answer)
-    unfolding runUp
+        → Each P (tableAfter (runBy step room t s)) × A (runBy step room t s .answer)
     run-keeps ended room t s h =
         choose (λ (r : Ran (ℕ × List Record)). Each P (tableAfter r) × A (r .answer)) (eqb (length t) wholeTable)
-        (λ _. run-does (within tableUp) (λ (u : ℕ × List Record). Each P (u .1)) A ended call-keeps (cut s) (room, t) h)
+        (λ _. run-does (within step) (λ (u : ℕ × List Record). Each P (u .1)) A ended call-keeps (cut s) (room, t) h)
         (λ _. (h, ten))

@@ -14,6 +14,7 @@ use Rattle.stream.specs.Answers.{cutPacket, noRoom, sent}
 use Rattle.stream.specs.Call.{Call, stopped, went, within}
 use Rattle.stream.specs.Run.{Ran, run, thenRun}
 use Rattle.stream.proofs.RunLaws.{Does, run-does, within-does}
+use Rattle.screen.specs.Screen.{openRule}
 use Rattle.channel.specs.declared.Record.{Record}
 use Rattle.channel.specs.Record.{empty, sound, wholeTable}
 use Rattle.message.specs.Message.{read1}
@@ -34,9 +35,9 @@ module _ (A : ℕ → Type 0) (three : A cutPacket) where
   stops t s good =
       rw (eq-eqb (length t) wholeTable (good .1))
       (go (callUp r s)
-      (up-does (λ (x : Record). Good (set t k x)) A r (packet s) (keep r (good .0 k)) three
+      (up-does (λ (x : Record). Good (set t k x)) A openRule r (packet s) (keep r (good .0 k)) three
       (λ n. not-both (sym n ∙ good .0 k))
-      (λ ok. keep (recordAfter r (read1 (first (packet s)))) (lift-sound (r .memory) ok _ (read1-fits (first (packet s)))))))
+      (λ _ _ ok. keep (recordAfter r (read1 (first (packet s)))) (lift-sound (r .memory) ok _ (read1-fits (first (packet s)))))))
     where
       k : ℕ
       k = placeOf (first s)
@@ -64,13 +65,13 @@ module _ (A : ℕ → Type 0) (three : A cutPacket) where
       .1)
 
 -- one call over known records is one over records that are asked
-same-call : (t : List Record) (s : List ℕ) → SoundTable t → tableBy true t s ≡ tableUp t s
+same-call : (t : List Record) (s : List ℕ) → SoundTable t → tableBy openRule true t s ≡ tableUp t s
 unfolding tableBy callBy
 same-call t s h = rw (h (placeOf (first s)))
 
 -- and so is a run
 same-run : (ps : List (List ℕ)) (u : ℕ × List Record) → Good (u .1)
-    → run (within (tableBy true)) u ps ≡ run (within tableUp) u ps
+    → run (within (tableBy openRule true)) u ps ≡ run (within tableUp) u ps
 unfolding run within
 same-run [] u good = refl
 same-run (p ∷ ps) u good =
@@ -78,11 +79,11 @@ same-run (p ∷ ps) u good =
     (go (within tableUp u p) (within-stops (λ _. Unit {0}) tt tt u p good) (λ v. same-run ps v))
   where
     go : (c : Call (ℕ × List Record)) → Does (λ (v : ℕ × List Record). Good (v .1)) (λ _. Unit {0}) c
-        → ((v : ℕ × List Record) → Good (v .1) → run (within (tableBy true)) v ps ≡ run (within tableUp) v ps)
-        → thenRun p u c (λ v. run (within (tableBy true)) v ps) ≡ thenRun p u c (λ v. run (within tableUp) v ps)
+        → ((v : ℕ × List Record) → Good (v .1) → run (within (tableBy openRule true)) v ps ≡ run (within tableUp) v ps)
+        → thenRun p u c (λ v. run (within (tableBy openRule true)) v ps) ≡ thenRun p u c (λ v. run (within tableUp) v ps)
     go (went a ws v) d ih = rw (ih v d)
     go (stopped a) d ih = refl
 
-pub known-run : (room : ℕ) (t : List Record) (s : List ℕ) → Good t → runBy (tableBy true) room t s ≡ runUp room t s
+pub known-run : (room : ℕ) (t : List Record) (s : List ℕ) → Good t → runBy (tableBy openRule true) room t s ≡ runUp room t s
 unfolding runUp
 known-run room t s good = rw (same-run (cut s) (room, t) good)

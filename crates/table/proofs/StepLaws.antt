@@ -48,9 +48,9 @@ module _ (j : Job) (ws : List ℕ) (d : Done) (t : List Record) (out : List ℕ)
   room = length out - d .written
 
   -- it is the record that the call leaves
-  made-left : made ≡ leftOf (room, own) (within (callBy (j .known)) (room, own) (drop (d .read) ws)) .1
+  made-left : made ≡ leftOf (room, own) (within (callBy (j .rule) (j .known)) (room, own) (drop (d .read) ws)) .1
   unfolding recordStep within callBy
-  made-left = effect-at room (j .known || sound own) own ws (d .read)
+  made-left = effect-at (j .rule) room (j .known || sound own) own ws (d .read)
 
   pub as-table : length t ≡ wholeTable
       → (turn .done ≡ reportAfterCall (tableStep j) ws d t out)
@@ -58,7 +58,7 @@ module _ (j : Job) (ws : List ℕ) (d : Done) (t : List Record) (out : List ℕ)
       × (outputAfterCall (recordStep j) ws d own out ≡ outputAfterCall (tableStep j) ws d t out)
   unfolding recordStep tableStep within
   as-table l =
-      let e = own-call (j .known) d (next ws d) room t ws (d .read) l in
+      let e = own-call (j .rule) (j .known) d (next ws d) room t ws (d .read) l in
       (e .0, ap (set t (placeAt ws (d .read))) made-left ∙ e .2, ap (λ (x : List ℕ). written (d .written) x out) (e .1))
 
   -- without an effect the table stays as it was
@@ -71,11 +71,11 @@ module _ (j : Job) (ws : List ℕ) (d : Done) (t : List Record) (out : List ℕ)
 module _ (j : Job) (t : List Record) where
   pub step-near : (w : ℕ) (s : List ℕ) → tableStep j t (take (size w) (w ∷ s)) ≡ tableStep j t (w ∷ s)
   unfolding tableStep
-  step-near w s = table-near (j .known) t w s
+  step-near w s = table-near (j .rule) (j .known) t w s
 
   pub step-inside : (w : ℕ) (s : List ℕ) → Inside (w ∷ s) (tableStep j t (w ∷ s))
   unfolding tableStep
-  step-inside w s = table-inside (j .known) t w s
+  step-inside w s = table-inside (j .rule) (j .known) t w s
 
   pub step-refuses : (room : ℕ) (s : List ℕ) → eqb (length t) wholeTable ≡ false → within (tableStep j) (room, t) s ≡ stopped noTable
   unfolding within tableStep tableBy

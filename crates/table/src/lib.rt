@@ -8,6 +8,7 @@ use channel::RECORDS;
 use channel::Record;
 use effect::LEAVES;
 use effect::effected;
+use screen::Rule;
 use stream::Done;
 use stream::NO_TABLE;
 use stream::SENT;
@@ -24,15 +25,16 @@ ghost use Rattle.stream.specs.Answers.{noTable, sent};
 ghost use Rattle.stream.specs.Report.{counting, placing};
 ghost use Rattle.channel.specs.Record.{empty, wholeTable};
 ghost use Rattle.table.specs.Table.{tableAfter};
-ghost use Rattle.table.specs.Job.{asked, askedReport, knownRun, oneCall, recordStep, tableStep};
-ghost use Rattle.table.specs.Job.{wholeRun};
+ghost use Rattle.table.specs.Job.{asked, askedReport, beginnersCall, beginnersRun, knownRun, oneCall};
+ghost use Rattle.table.specs.Job.{recordStep, tableStep, wholeRun};
 ghost use Rattle.table.specs.Next.{outputAfterCall, reportAfterCall, stateAfter, turnAt};
 
-// What the loop is told: whether it is to make one call only, and whether its records are known to be
-// sound.
+// What the loop is told: whether it is to make one call only, whether its records are known to be
+// sound, and which rule holds.
 pub struct Job {
     pub once: bool,
     pub known: bool,
+    pub rule: Rule,
 }
 
 // How far a call or a run is: the report so far, and whether another packet is to be treated.
@@ -53,6 +55,7 @@ pub fn one_call() -> Job
     Job {
         once: true,
         known: false,
+        rule: Rule { beginners: false },
     }
 }
 
@@ -62,6 +65,7 @@ pub fn whole_run() -> Job
     Job {
         once: false,
         known: false,
+        rule: Rule { beginners: false },
     }
 }
 
@@ -72,6 +76,29 @@ pub fn known_run() -> Job
     Job {
         once: false,
         known: true,
+        rule: Rule { beginners: false },
+    }
+}
+
+// A call in the beginners' room.
+pub fn beginners_call() -> Job
+    ensures { λ r. ⌜ r ≡ beginnersCall ⌝ }
+{
+    Job {
+        once: true,
+        known: false,
+        rule: Rule { beginners: true },
+    }
+}
+
+// A run in the beginners' room.
+pub fn beginners_run() -> Job
+    ensures { λ r. ⌜ r ≡ beginnersRun ⌝ }
+{
+    Job {
+        once: false,
+        known: false,
+        rule: Rule { beginners: true },
     }
 }
 
@@ -124,7 +151,8 @@ fn step(words: &[u32], job: Job, past: Done, record: Record, out: &mut [u32]) ->
     ensures output { λ _. ⌜ now (out .exit)
         ≡ outputAfterCall (recordStep job) (now (words .entry)) past «record» (now (out .entry)) ⌝ }
 {
-    voice::up(words, past, record, job.known, out)
+    let rule = job.rule;
+    voice::up(words, past, record, job.known, out, rule)
 }
 
 // The call at the next packet, with the table, which is a whole one.

@@ -21,7 +21,8 @@ use Rattle.stream.specs.Call.{Call, answerOf, fit, leftOf, refused, sentOf, sto
 use Rattle.stream.proofs.CallLaws.{refusal, refused-fits}
 use Rattle.stream.proofs.RunLaws.{Does}
 use Rattle.stream.proofs.RunLoop.{Inside}
-use Rattle.screen.specs.Screen.{checkVoice1, goesOn, screen, screened}
+use Rattle.screen.specs.declared.Rule.{Rule}
+use Rattle.screen.specs.Screen.{checkVoice1, goesOn, openRule, screen, screenBy, screened}
 use Rattle.screen.proofs.ScreenLaws.{cut-only, refused-above, screen-voice1, screened-cases}
 use Rattle.channel.specs.declared.Record.{Record}
 use Rattle.channel.specs.Record.{sound}
@@ -51,36 +52,38 @@ packet-inside {T} act e w s =
     go (went a ws u) e h = (e, h)
     go (stopped a) e h = tt
 
-pub up-inside : (known : Bool) (r : Record) (w : ℕ) (s : List ℕ) → Inside (w ∷ s) (callBy known r (w ∷ s))
-unfolding callBy packetIf screen screened refused
-up-inside known r w s = packet-inside (packetIf (known || sound r) r) refl w s
+pub up-inside : (rule : Rule) (known : Bool) (r : Record) (w : ℕ) (s : List ℕ)
+    → Inside (w ∷ s) (callBy rule known r (w ∷ s))
+unfolding callBy packetIf screenBy screened refused
+up-inside rule known r w s = packet-inside (packetIf rule (known || sound r) r) refl w s
 
 pub down-inside : (t : Unit {0}) (w : ℕ) (s : List ℕ) → Inside (w ∷ s) (callDown t (w ∷ s))
-unfolding callDown packetDown screen screened refused
+unfolding callDown packetDown screenBy screened refused
 down-inside t w s = packet-inside packetDown refl w s
 
--- What a call up comes to at the packet p, whose first word is w, with the record r, of which `ok` says that it is sound:
--- refused, sent on, or a voice message. In a state t, where `put` puts a record back.
-pub record UpCases {T : Type 0} (P : Call T → Type 0) (t : T) (put : Record → T) (ok : Bool) (r : Record) (p : List ℕ)
-    (w : ℕ) : Type 0 where
-  pub refuses : (screen voice2 p .answer ≡ goesOn → ⊥) → P (refused (screen voice2 p .answer) t)
-  pub onward : screen voice2 p .answer ≡ goesOn → eqb (messageType w) voice1 ≡ false → P (went sent p t)
-  pub unsound : screen voice2 p .answer ≡ goesOn → eqb (messageType w) voice1 ≡ true → ok ≡ false
+-- What a call up comes to under a rule at the packet p, whose first word is w, with the record r, of which `ok` says that
+-- it is sound: refused, sent on, or a voice message. In a state t, where `put` puts a record back.
+pub record UpCases {T : Type 0} (P : Call T → Type 0) (t : T) (put : Record → T) (rule : Rule) (ok : Bool) (r : Record)
+    (p : List ℕ) (w : ℕ) : Type 0 where
+  pub refuses : (screenBy rule voice2 p .answer ≡ goesOn → ⊥) → P (refused (screenBy rule voice2 p .answer) t)
+  pub onward : screenBy rule voice2 p .answer ≡ goesOn → eqb (messageType w) voice1 ≡ false → P (went sent p t)
+  pub unsound : screenBy rule voice2 p .answer ≡ goesOn → eqb (messageType w) voice1 ≡ true → ok ≡ false
       → P (stopped notSound)
-  pub takes : screen voice2 p .answer ≡ goesOn → eqb (messageType w) voice1 ≡ true → ok ≡ true
+  pub takes : screenBy rule voice2 p .answer ≡ goesOn → eqb (messageType w) voice1 ≡ true → ok ≡ true
       → lift (r .memory) (read1 w) .sends ≡ none → P (went takenIn [] (put (recordAfter r (read1 w))))
-  pub sends : screen voice2 p .answer ≡ goesOn → eqb (messageType w) voice1 ≡ true → ok ≡ true → (m : Midi2)
+  pub sends : screenBy rule voice2 p .answer ≡ goesOn → eqb (messageType w) voice1 ≡ true → ok ≡ true → (m : Midi2)
       → lift (r .memory) (read1 w) .sends ≡ some m
       → P (went sent (write2 (groupOf w) (channelOf w) m) (put (recordAfter r (read1 w))))
 
 abbrev itself : Record → Record
 itself r = r
 
-pub up-cases : (P : Call Record → Type 0) (ok : Bool) (r : Record) (p : List ℕ) → UpCases P r itself ok r p (first p)
-    → P (packetIf ok r p)
+pub up-cases : (P : Call Record → Type 0) (rule : Rule) (ok : Bool) (r : Record) (p : List ℕ)
+    → UpCases P r itself rule ok r p (first p)
+    → P (packetIf rule ok r p)
 unfolding packetIf speakIf
-up-cases P ok r p u =
-    screened-cases P (screen voice2 p) r (actIf ok r p)
+up-cases P rule ok r p u =
+    screened-cases P (screenBy rule voice2 p) r (actIf ok r p)
     (λ f. choose P (eqb (messageType w) voice1)
     (λ e. choose P ok (λ h. go f e h (lift (r .memory) (read1 w) .sends) refl) (u .unsound f e)) (u .onward f))
     (u .refuses)
@@ -88,7 +91,7 @@ up-cases P ok r p u =
     w : ℕ
     w = first p
 
-    go : screen voice2 p .answer ≡ goesOn → eqb (messageType w) voice1 ≡ true → ok ≡ true → (o : Option Midi2)
+    go : screenBy rule voice2 p .answer ≡ goesOn → eqb (messageType w) voice1 ≡ true → ok ≡ true → (o : Option Midi2)
         → lift (r .memory) (read1 w) .sends ≡ o → P (sending (groupOf w) (channelOf w) (recordAfter r (read1 w)) o)
     go f e h none k = u .takes f e h k
     go f e h (some m) k = u .sends f e h m k
@@ -118,30 +121,34 @@ down-cases P p d =
     go f e (m ∷ ms) k = d .sends f e m ms k
 
 -- what is left, if a call goes on, and what it stops with
-refused-does : {T : Type 0} (I : T → Type 0) (A : ℕ → Type 0) (wrong : ℕ) (p : List ℕ) (t : T) → I t → A cutPacket
-    → Does I A (refused (screen wrong p .answer) t)
-unfolding refused screen
-refused-does I A wrong p t h three =
-    choose (Does I A) (stopsRun (screen wrong p .answer))
-    (λ e. subst (λ (q : List ℕ). A (screen wrong q .answer)) (sym (cut-only wrong p e)) three) (λ _. h)
+refused-does : {T : Type 0} (I : T → Type 0) (A : ℕ → Type 0) (rule : Rule) (wrong : ℕ) (p : List ℕ) (t : T) → I t
+    → A cutPacket
+    → Does I A (refused (screenBy rule wrong p .answer) t)
+unfolding refused screenBy
+refused-does I A rule wrong p t h three =
+    choose (Does I A) (stopsRun (screenBy rule wrong p .answer))
+    (λ e. subst (λ (q : List ℕ). A (screenBy rule wrong q .answer)) (sym (cut-only rule wrong p e)) three) (λ _. h)
 
-pub up-does : (I : Record → Type 0) (A : ℕ → Type 0) (r : Record) (p : List ℕ) → I r → A cutPacket
-    → (sound r ≡ false → A notSound) → (sound r ≡ true → I (recordAfter r (read1 (first p)))) → Does I A (packetUp r p)
-up-does I A r p h three eight after =
-    up-cases (Does I A) (sound r) r p
+pub up-does : (I : Record → Type 0) (A : ℕ → Type 0) (rule : Rule) (r : Record) (p : List ℕ) → I r → A cutPacket
+    → (sound r ≡ false → A notSound)
+    → (screenBy rule voice2 p .answer ≡ goesOn → eqb (messageType (first p)) voice1 ≡ true → sound r ≡ true
+    → I (recordAfter r (read1 (first p))))
+    → Does I A (packetIf rule (sound r) r p)
+up-does I A rule r p h three eight after =
+    up-cases (Does I A) rule (sound r) r p
     (record {
-      refuses = λ _. refused-does I A voice2 p r h three;
+      refuses = λ _. refused-does I A rule voice2 p r h three;
       onward = λ _ _. h;
       unsound = λ _ _. eight;
-      takes = λ _ _ e _. after e;
-      sends = λ _ _ e _ _. after e;
+      takes = λ f v e _. after f v e;
+      sends = λ f v e _ _. after f v e;
     })
 
 pub down-does : (A : ℕ → Type 0) (p : List ℕ) → A cutPacket → Does (λ _. Unit {0}) A (packetDown p)
 down-does A p three =
     down-cases (Does (λ _. Unit {0}) A) p
     (record {
-      refuses = λ _. refused-does (λ _. Unit {0}) A voice1 p tt tt three;
+      refuses = λ _. refused-does (λ _. Unit {0}) A openRule voice1 p tt tt three;
       onward = λ _ _. tt;
       formless = λ _ _ _. tt;
       sends = λ _ _ _ _ _. tt;
@@ -156,7 +163,7 @@ refused-four a t = rw (refusal a t [] (λ _. refl) .2) (omega arith)
 
 pub few-up : (r : Record) (p : List ℕ) → length p ≤ 4 → length (sentOf (packetUp r p)) ≤ 4
 few-up r p h =
-    up-cases UpToFour (sound r) r p
+    up-cases UpToFour openRule (sound r) r p
     (record {
       refuses = λ _. refused-four (screen voice2 p .answer) r;
       onward = λ _ _. h;
@@ -178,18 +185,18 @@ few-down p h =
     })
 
 -- without a packet nothing happens
-pub up-cut : (ok : Bool) (r : Record) → packetIf ok r [] ≡ stopped cutPacket
-unfolding packetIf screen screened refused
-up-cut ok r = refl
+pub up-cut : (rule : Rule) (ok : Bool) (r : Record) → packetIf rule ok r [] ≡ stopped cutPacket
+unfolding packetIf screenBy screened refused
+up-cut rule ok r = refl
 
 -- a MIDI 1.0 voice message by its one word
-pub packet-voice1 : (ok : Bool) (r : Record) (w : ℕ) → messageType w ≡ 2
-    → packetIf ok r (w ∷ []) ≡ screened (checkVoice1 w) r (speakIf ok r w)
+pub packet-voice1 : (rule : Rule) (ok : Bool) (r : Record) (w : ℕ) → messageType w ≡ 2
+    → packetIf rule ok r (w ∷ []) ≡ screened (checkVoice1 rule w) r (speakIf ok r w)
 unfolding packetIf
-packet-voice1 ok r w h = rw (screen-voice1 w h, h)
+packet-voice1 rule ok r w h = rw (screen-voice1 rule w h, h)
 
 -- The effect that is told is what becomes of the record, in an output of so much room.
-module _ (room : ℕ) (ok : Bool) (r : Record) (p : List ℕ) where
+module _ (rule : Rule) (room : ℕ) (ok : Bool) (r : Record) (p : List ℕ) where
   abbrev key : ℕ
   key = data1 (first p)
 
@@ -201,16 +208,16 @@ module _ (room : ℕ) (ok : Bool) (r : Record) (p : List ℕ) where
   unfolding effected
   stays a h c e l = rw (e, h, l)
 
-  pub effect-made : Made (fit room (packetIf ok r p))
+  pub effect-made : Made (fit room (packetIf rule ok r p))
   unfolding effected
   effect-made =
-      up-cases (λ (c : Call Record). Made (fit room c)) ok r p
+      up-cases (λ (c : Call Record). Made (fit room c)) rule ok r p
       (record {
         refuses = λ n.
-            let a = screen voice2 p .answer in
+            let a = screenBy rule voice2 p .answer in
             let z = refusal {T = ℕ × Record} a (room, r) [] (λ _. refl) in
             rw (refused-fits room a r)
-            (stays a (refused-above voice2 p n) (refused a (room, r)) (z .0) (ap (λ (x : ℕ × Record). x .1) (z .3)));
+            (stays a (refused-above rule voice2 p n) (refused a (room, r)) (z .0) (ap (λ (x : ℕ × Record). x .1) (z .3)));
         onward = λ _ e. choose Made (leb (length p) room) (λ _. rw e) (λ _. refl);
         unsound = λ _ _ _. refl;
         takes = λ _ e _ _. rw (leb·zero room, e) (effect-does r (first p));
@@ -235,26 +242,26 @@ first-of ws i =
     go w s = ⊎-elim (λ z. inl z) (λ h. inr (rw (h .0) (taken w s (size w) (size-range w)))) (packet-size w s)
 
 -- the effect of a packet, with its own key, is the record that its call leaves; where there is no packet, any key will do
-effect-left : (room : ℕ) (ok : Bool) (r : Record) (p : List ℕ) (k : ℕ) → (p ≡ []) ⊎ (data1 (first p) ≡ k)
-    → effected r (effectBy (effectAt p) (fit room (packetIf ok r p))) (leftOf (room, r) (fit room (packetIf ok r p)) .1 .memory) k
-    ≡ leftOf (room, r) (fit room (packetIf ok r p)) .1
+effect-left : (rule : Rule) (room : ℕ) (ok : Bool) (r : Record) (p : List ℕ) (k : ℕ) → (p ≡ []) ⊎ (data1 (first p) ≡ k)
+    → effected r (effectBy (effectAt p) (fit room (packetIf rule ok r p))) (leftOf (room, r) (fit room (packetIf rule ok r p)) .1 .memory) k
+    ≡ leftOf (room, r) (fit room (packetIf rule ok r p)) .1
 unfolding effected
-effect-left room ok r p k (inl z) = subst Leaves (sym z) none
+effect-left rule room ok r p k (inl z) = subst Leaves (sym z) none
   where
     Leaves : List ℕ → Type 0
     Leaves p =
-        effected r (effectBy (effectAt p) (fit room (packetIf ok r p))) (leftOf (room, r) (fit room (packetIf ok r p)) .1 .memory) k
-        ≡ leftOf (room, r) (fit room (packetIf ok r p)) .1
+        effected r (effectBy (effectAt p) (fit room (packetIf rule ok r p))) (leftOf (room, r) (fit room (packetIf rule ok r p)) .1 .memory) k
+        ≡ leftOf (room, r) (fit room (packetIf rule ok r p)) .1
 
     none : Leaves []
-    none = rw (up-cut ok r) refl
-effect-left room ok r p k (inr e) = rw (← e) (effect-made room ok r p)
+    none = rw (up-cut rule ok r) refl
+effect-left rule room ok r p k (inr e) = rw (← e) (effect-made rule room ok r p)
 
 -- so it is with the key that stands in the words
-pub effect-at : (room : ℕ) (ok : Bool) (r : Record) (ws : List ℕ) (i : ℕ) → let p = packet (drop i ws) in
-    effected r (effectBy (effectAt p) (fit room (packetIf ok r p))) (leftOf (room, r) (fit room (packetIf ok r p)) .1 .memory)
+pub effect-at : (rule : Rule) (room : ℕ) (ok : Bool) (r : Record) (ws : List ℕ) (i : ℕ) → let p = packet (drop i ws) in
+    effected r (effectBy (effectAt p) (fit room (packetIf rule ok r p))) (leftOf (room, r) (fit room (packetIf rule ok r p)) .1 .memory)
     (data1 (getD ws i 0))
-    ≡ leftOf (room, r) (fit room (packetIf ok r p)) .1
-effect-at room ok r ws i =
-    effect-left room ok r (packet (drop i ws)) (data1 (getD ws i 0))
+    ≡ leftOf (room, r) (fit room (packetIf rule ok r p)) .1
+effect-at rule room ok r ws i =
+    effect-left rule room ok r (packet (drop i ws)) (data1 (getD ws i 0))
     (⊎-elim (λ z. inl z) (λ e. inr (ap data1 e)) (first-of ws i))

@@ -22,8 +22,9 @@ use Rattle.stream.specs.Answers.{noForm, noRoom, notSound, sent, stopsRun, take
 use Rattle.stream.specs.Call.{Call, answerOf, leftOf, readOf, refused, sentOf, stopped, went}
 use Rattle.stream.specs.Report.{counting, placeTold, placing}
 use Rattle.stream.proofs.CallLaws.{refusal, refused-fits}
+use Rattle.screen.specs.declared.Rule.{Rule}
 use Rattle.screen.specs.declared.Screened.{Screened}
-use Rattle.screen.specs.Screen.{checkVoice1, goesOn, screen, screened}
+use Rattle.screen.specs.Screen.{checkVoice1, goesOn, openRule, screen, screenBy, screened}
 use Rattle.screen.proofs.ScreenLaws.{check-above, check-goes-on, check-place, cut-only, screen-place}
 use Rattle.channel.specs.declared.Record.{Record}
 use Rattle.channel.specs.Record.{sound}
@@ -191,14 +192,14 @@ module _ (d : Done) (p out : List ℕ) (r : Record) where
       go true = rw (same-either (leb a takenIn)) (refl, refl)
       go false = rw (same-either (leb a takenIn)) (refl, refl)
 
-  pub onward-turn : (ok : Bool) → eqb (messageType (first p)) voice1 ≡ false
-      → (record { after = r .memory; effect = leaves; done = reportOf d p out (onwardOf voice2 p) } ≡ turned d p out r (effectAt p) (packetIf ok r p))
-      × (outputOf d out (onwardOf voice2 p) ≡ outputOf d out (packetIf ok r p))
+  pub onward-turn : (rule : Rule) (ok : Bool) → eqb (messageType (first p)) voice1 ≡ false
+      → (record { after = r .memory; effect = leaves; done = reportOf d p out (onwardOf rule voice2 p) } ≡ turned d p out r (effectAt p) (packetIf rule ok r p))
+      × (outputOf d out (onwardOf rule voice2 p) ≡ outputOf d out (packetIf rule ok r p))
   unfolding packetIf
-  onward-turn ok n = rw n (go (eqb (s .answer) goesOn) refl)
+  onward-turn rule ok n = rw n (go (eqb (s .answer) goesOn) refl)
     where
       s : Screened
-      s = screen voice2 p
+      s = screenBy rule voice2 p
 
       go : (b : Bool) → eqb (s .answer) goesOn ≡ b → Same (inRoom d out (screened s tt (went sent p tt))) (inRoom d out (screened s r (went sent p r)))
       go true e =
@@ -222,17 +223,17 @@ module _ (d : Done) (p out : List ℕ) (r : Done) (o : List ℕ) where
       let z = sent-words {T = Unit {0}} d p out tt ws in
       (f ∙ ap (reportAfter d (length p) out) k ∙ z .0, g ∙ ap (outputAfter d out) k ∙ z .1)
 
-  module _ (wrong : ℕ) (s : Screened) (e : s ≡ screen wrong p) (act : Call (Unit {0})) where
-    pub passed-comes : s .answer ≡ goesOn → Comes act → Comes (screened (screen wrong p) tt act)
-    passed-comes a h = rw (passes {T = Unit {0}} (screen wrong p) tt act (sym (ap (λ (x : Screened). x .answer) e) ∙ a)) h
+  module _ (rule : Rule) (wrong : ℕ) (s : Screened) (e : s ≡ screenBy rule wrong p) (act : Call (Unit {0})) where
+    pub passed-comes : s .answer ≡ goesOn → Comes act → Comes (screened (screenBy rule wrong p) tt act)
+    passed-comes a h = rw (passes {T = Unit {0}} (screenBy rule wrong p) tt act (sym (ap (λ (x : Screened). x .answer) e) ∙ a)) h
 
     pub refused-comes : (s .answer ≡ goesOn → ⊥) → r ≡ placing (s .answer) (s .place) (d .read + length p) (d .written) → o ≡ out
-        → Comes (screened (screen wrong p) tt act)
+        → Comes (screened (screenBy rule wrong p) tt act)
     refused-comes n f g =
-        let no-packet : stopsRun (s .answer) ≡ true → p ≡ [] = λ k. cut-only wrong p (ap (λ (x : Screened). stopsRun (x .answer)) (sym e) ∙ k) in
-        let k : screened (screen wrong p) tt act ≡ refused (s .answer) tt =
+        let no-packet : stopsRun (s .answer) ≡ true → p ≡ [] = λ k. cut-only rule wrong p (ap (λ (x : Screened). stopsRun (x .answer)) (sym e) ∙ k) in
+        let k : screened (screenBy rule wrong p) tt act ≡ refused (s .answer) tt =
         rw (← e) (refuses {T = Unit {0}} s tt act n) in
-        let told : s .place ≡ placeTold (s .answer) p = rw (← e) at (screen-place wrong p) in
+        let told : s .place ≡ placeTold (s .answer) p = rw (← e) at (screen-place rule wrong p) in
         rw k (f ∙ ap (λ (x : ℕ). placing (s .answer) x (d .read + length p) (d .written)) told ∙ sym (refused-report {T = Unit {0}} d p out tt (s .answer) no-packet), g ∙ refused-output {T = Unit {0}} d p out tt (s .answer) no-packet)
 
   -- a MIDI 2.0 message: without a form, or with
@@ -260,7 +261,7 @@ pub down-voice : (p : List ℕ) → messageType (first p) ≡ voice2 → packetD
 unfolding packetDown
 down-voice p e = rw e
 
-pub down-other : (p : List ℕ) → (messageType (first p) ≡ voice2 → ⊥) → packetDown p ≡ onwardOf voice1 p
+pub down-other : (p : List ℕ) → (messageType (first p) ≡ voice2 → ⊥) → packetDown p ≡ onwardOf openRule voice1 p
 unfolding packetDown
 down-other p n = rw (ne-eqb (messageType (first p)) voice2 n)
 
@@ -287,23 +288,23 @@ unfolding speakIf
 speaks-unsound ok d w r out h = (rw (h, add-zero (d .read), add-zero (d .written)), rw h (sym (written-none (d .written) out)))
 
 -- a MIDI 1.0 voice message that the check refuses
-pub check-refused : (ok : Bool) (d : Done) (w : ℕ) (r : Record) (out : List ℕ) (s : Screened) → messageType w ≡ voice1 → s ≡ checkVoice1 w
+pub check-refused : (rule : Rule) (ok : Bool) (d : Done) (w : ℕ) (r : Record) (out : List ℕ) (s : Screened) → messageType w ≡ voice1 → s ≡ checkVoice1 rule w
     → (s .answer ≡ goesOn → ⊥)
     → (record { after = r .memory; effect = leaves; done = placing (s .answer) (s .place) (d .read + 1) (d .written) }
-    ≡ turned d (w ∷ []) out r (effectOf (read1 w)) (screened (checkVoice1 w) r (speakIf ok r w)))
-    × (out ≡ outputOf d out (screened (checkVoice1 w) r (speakIf ok r w)))
-check-refused ok d w r out s v e n =
-    let f : checkVoice1 w .answer ≡ goesOn → ⊥ = λ z. n (ap (λ (x : Screened). x .answer) e ∙ z) in
-    let no-packet : stopsRun (checkVoice1 w .answer) ≡ true → (w ∷ []) ≡ [] = λ k. not-both (sym (check-goes-on w) ∙ k) in
-    rw (e, refuses (checkVoice1 w) r (speakIf ok r w) f, check-place w v) (
-      refused-turn d (w ∷ []) out r (effectOf (read1 w)) (checkVoice1 w .answer) no-packet (check-above w f),
-      refused-output d (w ∷ []) out r (checkVoice1 w .answer) no-packet,
+    ≡ turned d (w ∷ []) out r (effectOf (read1 w)) (screened (checkVoice1 rule w) r (speakIf ok r w)))
+    × (out ≡ outputOf d out (screened (checkVoice1 rule w) r (speakIf ok r w)))
+check-refused rule ok d w r out s v e n =
+    let f : checkVoice1 rule w .answer ≡ goesOn → ⊥ = λ z. n (ap (λ (x : Screened). x .answer) e ∙ z) in
+    let no-packet : stopsRun (checkVoice1 rule w .answer) ≡ true → (w ∷ []) ≡ [] = λ k. not-both (sym (check-goes-on rule w) ∙ k) in
+    rw (e, refuses (checkVoice1 rule w) r (speakIf ok r w) f, check-place rule w v) (
+      refused-turn d (w ∷ []) out r (effectOf (read1 w)) (checkVoice1 rule w .answer) no-packet (check-above rule w f),
+      refused-output d (w ∷ []) out r (checkVoice1 rule w .answer) no-packet,
     )
 
 -- and the packet that is one
-pub voice-turn : (ok : Bool) (d : Done) (ws out : List ℕ) (r : Record) (x : EffectAndReport) (o : List ℕ) → messageType (getD ws (d .read) 0) ≡ voice1
+pub voice-turn : (rule : Rule) (ok : Bool) (d : Done) (ws out : List ℕ) (r : Record) (x : EffectAndReport) (o : List ℕ) → messageType (getD ws (d .read) 0) ≡ voice1
     → let w = getD ws (d .read) 0 in
-    let c = screened (checkVoice1 w) r (speakIf ok r w) in
+    let c = screened (checkVoice1 rule w) r (speakIf ok r w) in
     (x ≡ turned d (w ∷ []) out r (effectOf (read1 w)) c) × (o ≡ outputOf d out c)
-    → let p = next ws d in (x ≡ turned d p out r (effectAt p) (packetIf ok r p)) × (o ≡ outputOf d out (packetIf ok r p))
-voice-turn ok d ws out r x o e h = rw (voice-packet ws (d .read) e, packet-voice1 ok r (getD ws (d .read) 0) e, e) h
+    → let p = next ws d in (x ≡ turned d p out r (effectAt p) (packetIf rule ok r p)) × (o ≡ outputOf d out (packetIf rule ok r p))
+voice-turn rule ok d ws out r x o e h = rw (voice-packet ws (d .read) e, packet-voice1 rule ok r (getD ws (d .read) 0) e, e) h

@@ -11,7 +11,8 @@ use Rattle.ump.specs.Packet.{cut, first, packet, second}
 use Rattle.stream.specs.Answers.{noForm, notSound, sent, takenIn}
 use Rattle.stream.specs.Call.{Call, stopped, went, within}
 use Rattle.stream.specs.Run.{Ran, called, run}
-use Rattle.screen.specs.Screen.{screen, screened}
+use Rattle.screen.specs.declared.Rule.{Rule}
+use Rattle.screen.specs.Screen.{openRule, screen, screenBy, screened}
 use Rattle.channel.specs.declared.Record.{Record}
 use Rattle.channel.specs.Record.{sound}
 use Rattle.message.specs.Message.{Midi1, Midi2, read1, read2, write1, write2}
@@ -51,31 +52,31 @@ actIf ok r p = cond (eqb (messageType (first p)) voice1) (speakIf ok r (first p)
 abbrev pub actDown : List ℕ → Call (Unit {0})
 actDown p = cond (eqb (messageType (first p)) voice2) (voiceDown p) (went sent p tt)
 
--- What a packet does, going up with its own record; and going down, where no record is needed.
-unfoldable pub packetIf : Bool → Record → List ℕ → Call Record
-packetIf ok r p = screened (screen voice2 p) r (actIf ok r p)
+-- What a packet does, going up with its own record under a rule; and going down, where no record is needed.
+unfoldable pub packetIf : Rule → Bool → Record → List ℕ → Call Record
+packetIf rule ok r p = screened (screenBy rule voice2 p) r (actIf ok r p)
 
 abbrev pub packetUp : Record → List ℕ → Call Record
-packetUp r p = packetIf (sound r) r p
+packetUp r p = packetIf openRule (sound r) r p
 
 unfoldable pub packetDown : List ℕ → Call (Unit {0})
 packetDown p = screened (screen voice1 p) tt (actDown p)
 
 -- the same for a packet that is no voice message of either protocol, or of the wrong one
-abbrev pub onwardOf : ℕ → List ℕ → Call (Unit {0})
-onwardOf wrong p = screened (screen wrong p) tt (went sent p tt)
+abbrev pub onwardOf : Rule → ℕ → List ℕ → Call (Unit {0})
+onwardOf rule wrong p = screened (screenBy rule wrong p) tt (went sent p tt)
 
 -- what a packet may do to its record
 abbrev pub effectAt : List ℕ → ℕ
 effectAt p = cond (eqb (messageType (first p)) voice1) (effectOf (read1 (first p))) leaves
 
--- One call: the packet that stands first in the words left. Soundness is asked of its record, unless that is known to
--- be sound (02 M-111).
-unfoldable pub callBy : Bool → Record → List ℕ → Call Record
-callBy known r s = packetIf (known || sound r) r (packet s)
+-- One call under a rule: the packet that stands first in the words left. Soundness is asked of its record, unless that
+-- is known to be sound (02 M-111).
+unfoldable pub callBy : Rule → Bool → Record → List ℕ → Call Record
+callBy rule known r s = packetIf rule (known || sound r) r (packet s)
 
 abbrev pub callUp : Record → List ℕ → Call Record
-callUp = callBy false
+callUp = callBy openRule false
 
 unfoldable pub callDown : Unit {0} → List ℕ → Call (Unit {0})
 callDown t s = packetDown (packet s)

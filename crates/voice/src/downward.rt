@@ -3,6 +3,7 @@ use crate::output::onward;
 use crate::output::refuse;
 use crate::output::send;
 use screen::GOES_ON;
+use screen::open_rule;
 use stream::Done;
 use stream::NO_FORM;
 use stream::SENT;
@@ -63,7 +64,7 @@ pub fn down(words: &[u32], past: Done, out: &mut [u32]) -> Done
     if ump::message_type(word_at(packet, 0)) == MIDI2_VOICE {
         voice_down(past, packet, out)
     } else {
-        onward(MIDI1_VOICE, past, packet, out)
+        onward(MIDI1_VOICE, past, packet, out, open_rule())
     }
 }
 

@@ -1,6 +1,7 @@
 // What a packet sends, stored into a lent output after what was written so far.
 use lower::UpToFourWords;
 use screen::GOES_ON;
+use screen::Rule;
 use screen::Screened;
 use stream::Done;
 use stream::NO_ROOM;
@@ -101,14 +102,14 @@ pub(crate) fn send(past: Done, n: usize, words: UpToFourWords, out: &mut [u32]) 
 }
 
 // A packet that is sent on unchanged, unless the screening refuses it.
-pub(crate) fn onward(wrong: u32, past: Done, packet: &[u32], out: &mut [u32]) -> Done
+pub(crate) fn onward(wrong: u32, past: Done, packet: &[u32], out: &mut [u32], rule: Rule) -> Done
     requires { ⌜ (length (now packet) ≤ 4) × (past .read + length (now packet) < 2 ^ 64) ⌝ }
     ensures report { λ r. ⌜ r
-        ≡ reportOf past (now (packet .entry)) (now (out .entry)) (onwardOf wrong (now (packet .entry))) ⌝ }
+        ≡ reportOf past (now (packet .entry)) (now (out .entry)) (onwardOf rule wrong (now (packet .entry))) ⌝ }
     ensures output { λ _. ⌜ now (out .exit)
-        ≡ outputOf past (now (out .entry)) (onwardOf wrong (now (packet .entry))) ⌝ }
+        ≡ outputOf past (now (out .entry)) (onwardOf rule wrong (now (packet .entry))) ⌝ }
 {
-    let screened = screen::screen(wrong, packet);
+    let screened = screen::screen_by(rule, wrong, packet);
     if screened.answer == GOES_ON {
         send(past, packet.len(), same_words(packet), out)
     } else {

@@ -8,6 +8,7 @@ use channel::Record;
 use effect::LEAVES;
 use lift::UpwardMessage;
 use screen::GOES_ON;
+use screen::Rule;
 use stream::Done;
 use stream::NO_ROOM;
 use stream::NOT_SOUND;
@@ -98,15 +99,22 @@ fn speak_up(past: Done, record: Record, known: bool, w: u32, out: &mut [u32]) ->
     }
 }
 
-// A MIDI 1.0 voice message, by its one word.
-fn voice_up(past: Done, record: Record, known: bool, w: u32, out: &mut [u32]) -> EffectAndReport
+// A MIDI 1.0 voice message, by its one word, under a rule.
+fn voice_up(
+    past: Done,
+    record: Record,
+    known: bool,
+    w: u32,
+    out: &mut [u32],
+    rule: Rule,
+) -> EffectAndReport
     requires { ⌜ (past .read + 1 < 2 ^ 64) × (messageType w ≡ voice1) ⌝ }
     ensures turn { λ r. ⌜ r ≡ turned past (w ∷ []) (now (out .entry)) «record» (effectOf (read1 w))
-        (screened (checkVoice1 w) «record» (speakIf (known || sound «record») «record» w)) ⌝ }
+        (screened (checkVoice1 rule w) «record» (speakIf (known || sound «record») «record» w)) ⌝ }
     ensures output { λ _. ⌜ now (out .exit) ≡ outputOf past (now (out .entry))
-        (screened (checkVoice1 w) «record» (speakIf (known || sound «record») «record» w)) ⌝ }
+        (screened (checkVoice1 rule w) «record» (speakIf (known || sound «record») «record» w)) ⌝ }
 {
-    let screened = screen::check_voice1(w);
+    let screened = screen::check_voice1(rule, w);
     if screened.answer == GOES_ON {
         speak_up(past, record, known, w, out)
     } else {
@@ -114,26 +122,28 @@ fn voice_up(past: Done, record: Record, known: bool, w: u32, out: &mut [u32]) ->
     }
 }
 
-// The packet that is next in the words, with its record, and whether that is known to be sound.
+// The packet that is next in the words, with its record, whether that is known to be sound, and under a
+// rule.
 pub fn up(
     words: &[u32],
     past: Done,
     record: Record,
     known: bool,
     out: &mut [u32],
+    rule: Rule,
 ) -> EffectAndReport
     ensures turn { λ r. ⌜ r ≡ turned past (next (now (words .entry)) past) (now (out .entry)) «record»
         (effectAt (next (now (words .entry)) past))
-        (packetIf (known || sound «record») «record» (next (now (words .entry)) past)) ⌝ }
+        (packetIf rule (known || sound «record») «record» (next (now (words .entry)) past)) ⌝ }
     ensures output { λ _. ⌜ now (out .exit) ≡ outputOf past (now (out .entry))
-        (packetIf (known || sound «record») «record» (next (now (words .entry)) past)) ⌝ }
+        (packetIf rule (known || sound «record») «record» (next (now (words .entry)) past)) ⌝ }
 {
     let at = past.read;
     let w = ump::word_at(words, at);
     if ump::message_type(w) == MIDI1_VOICE {
-        voice_up(past, record, known, w, out)
+        voice_up(past, record, known, w, out, rule)
     } else {
-        let done = onward(MIDI2_VOICE, past, ump::packet_at(words, at), out);
+        let done = onward(MIDI2_VOICE, past, ump::packet_at(words, at), out, rule);
         stays(record, done)
     }
 }

@@ -1,21 +1,9 @@
--- `screen::screen` meets its contract: test by test, in the order of the definition. Assumes nothing.
-use Rattle.screen.specs.Screen.{screen}
-use Rattle.ground.proofs.Tests.{tests}
+-- `screen::screen` meets its contract: it is the screening under the open rule. Assumes nothing.
 use borrow.Author.Needs.{needs}
-use borrow.Author.Tests.{eq-eqb}
 use Rattle.screen.proofs.screen.Statement.{statement}
 use Rattle.screen.proofs.screen.Tie as tie
 
 pub screen-spec : {M : Type 1} → statement M
-unfolding screen
 screen-spec =
     tie.close
-    (tie.spec
-    (λ c κs. search needs)
-    (λ c. simp (tests, ← c .finding .ensures, c .before .if1 .taken))
-    (λ c κs. search needs) (λ c κs. search needs) (λ c κs. search needs) (λ c κs. search needs)
-    (λ c. simp (tests, ← c .finding2 .ensures, c .before .if2 .taken, ← c .before .before .is-reserved .ensures, ← c .before .before .before .message-type .ensures, ← c .before .before .before .before .word-at .ensures, c .before .before .before .before .before .if1 .left))
-    (λ c κs. search needs)
-    (λ c. simp (← c .finding3 .ensures, eq-eqb _ _ (c .before .if3 .taken), tests, c .before .before .if2 .left, ← c .before .before .before .is-reserved .ensures, ← c .before .before .before .before .message-type .ensures, ← c .before .before .before .before .before .word-at .ensures, c .before .before .before .before .before .before .if1 .left))
-    (λ c κs. search needs) (λ c κs. search needs)
-    (λ c. simp (tests, ← c .check .ensures, ← c .before .word-at2 .ensures, c .before .before .if3 .left, c .before .before .before .if2 .left, ← c .before .before .before .before .is-reserved .ensures, ← c .before .before .before .before .before .message-type .ensures, ← c .before .before .before .before .before .before .word-at .ensures, c .before .before .before .before .before .before .before .if1 .left)))
+    (tie.spec (λ c κs. search needs) (λ c κs. search needs) (λ c. rw (c .screen-by .ensures, c .before .open-rule .ensures)))

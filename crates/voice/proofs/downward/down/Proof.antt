@@ -18,8 +18,8 @@ voice-down-requires c κs =
 
 onward-requires : tie.Need-onward-requires
 onward-requires c κs =
-    let a = c .before .before .before .before .before .before .before .args in
-    rw (c .before .before .before .before .packet-at .ensures) (next-few (drop (a .past .read) (now (a .words))), next-fits (now (a .words)) (a .past .read) (omega arith) (omega arith))
+    let a = c .before .before .before .before .before .before .before .before .args in
+    rw (c .before .before .before .before .before .packet-at .ensures) (next-few (drop (a .past .read) (now (a .words))), next-fits (now (a .words)) (a .past .read) (omega arith) (omega arith))
 
 returns : tie.Need-returns
 returns c =
@@ -29,9 +29,9 @@ returns c =
 
 returns-2 : tie.Need-returns-2
 returns-2 c =
-    let p = c .before .before .before .before .before .before .before .packet-at in
-    let e : messageType (first (now (p .result))) ≡ voice2 → ⊥ = λ z. c .before .before .before .before .if1 .left (c .before .before .before .before .before .message-type .ensures ∙ ap messageType (c .before .before .before .before .before .before .word-at .ensures) ∙ z) in
-    rw (← p .ensures, down-other (now (p .result)) e) (c .before .before .onward .ensures)
+    let p = c .before .before .before .before .before .before .before .before .packet-at in
+    let e : messageType (first (now (p .result))) ≡ voice2 → ⊥ = λ z. c .before .before .before .before .before .if1 .left (c .before .before .before .before .before .before .message-type .ensures ∙ ap messageType (c .before .before .before .before .before .before .before .word-at .ensures) ∙ z) in
+    rw (← p .ensures, down-other (now (p .result)) e) (rw (c .before .before .before .open-rule .ensures) at (c .before .before .onward .ensures))
 
 pub down-spec : {M : Type 1} → statement M
 down-spec =
@@ -39,6 +39,7 @@ down-spec =
     (tie.spec
     (λ c κs. search needs) (λ c κs. search needs) (λ c κs. search needs)
     voice-down-requires
+    (λ c κs. search needs)
     onward-requires
     (λ c. search needs)
     returns

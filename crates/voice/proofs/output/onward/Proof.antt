@@ -19,17 +19,17 @@ returns : tie.Need-returns
 returns c =
     let b = c .before .before .before .before .before .before .before .before .before .before in
     let p = now (b .args .packet) in
-    let s = c .before .before .before .before .before .before .before .screen in
+    let s = c .before .before .before .before .before .before .before .screen-by in
     let z = c .before .before .send .ensures in
-    passed-comes (b .args .past) p (now (b .args .out)) _ _ (b .args .wrong) (s .result) (s .ensures) (went sent p tt) (c .before .before .before .before .before .if1 .taken)
+    passed-comes (b .args .past) p (now (b .args .out)) _ _ (b .args .rule) (b .args .wrong) (s .result) (s .ensures) (went sent p tt) (c .before .before .before .before .before .if1 .taken)
     (sent-comes (b .args .past) p (now (b .args .out)) _ _ (c .before .before .before .before .same-words .result) p (c .before .before .before .before .same-words .ensures) (b .pre .0) (z .0) (z .1))
 
 returns-2 : tie.Need-returns-2
 returns-2 c =
     let b = c .before .before .before .before .before .before in
     let p = now (b .args .packet) in
-    let s = c .before .before .before .screen in
-    refused-comes (b .args .past) p (now (b .args .out)) _ _ (b .args .wrong) (s .result) (s .ensures) (went sent p tt) (c .before .if1 .left) (c .refuse .ensures) refl
+    let s = c .before .before .before .screen-by in
+    refused-comes (b .args .past) p (now (b .args .out)) _ _ (b .args .rule) (b .args .wrong) (s .result) (s .ensures) (went sent p tt) (c .before .if1 .left) (c .refuse .ensures) refl
 
 pub onward-spec : {M : Type 1} → statement M
 onward-spec =

@@ -26,14 +26,14 @@ returns c =
     let a = c .before .before .before .before .before .before .before .before .before .args in
     let w = c .before .before .before .before .before .before .word-at in
     let e = sym (ap messageType (w .ensures)) ∙ sym (c .before .before .before .before .before .message-type .ensures) ∙ c .before .before .before .before .if1 .taken in
-    voice-turn _ (a .past) (now (a .words)) (now (a .out)) (a .«record») _ _ e (rw (w .ensures) at (c .before .before .voice-up .ensures))
+    voice-turn (a .rule) _ (a .past) (now (a .words)) (now (a .out)) (a .«record») _ _ e (rw (w .ensures) at (c .before .before .voice-up .ensures))
 
 returns-2 : tie.Need-returns-2
 returns-2 c =
     let a = c .before .before .before .before .before .before .before .before .before .before .before .args in
     let p = c .before .before .before .before .before .packet-at in
     let e = other-packet (now (a .words)) (a .past .read) (λ z. c .before .before .before .before .before .before .if1 .left (c .before .before .before .before .before .before .before .message-type .ensures ∙ ap messageType (c .before .before .before .before .before .before .before .before .word-at .ensures) ∙ z)) in
-    let z = onward-turn (a .past) (now (p .result)) (now (a .out)) (a .«record») _ (rw (← p .ensures) at e) in
+    let z = onward-turn (a .past) (now (p .result)) (now (a .out)) (a .«record») (a .rule) _ (rw (← p .ensures) at e) in
     let k = c .before .before .before .onward .ensures in
     rw (c .stays .ensures, k .0, ← p .ensures) (z .0, k .1 ∙ z .1)
 

@@ -16,14 +16,14 @@ returns : tie.Need-returns
 returns c =
     let a = c .before .before .before .before .before .before .before .before .args in
     let s = c .before .before .before .before .before .before .check-voice1 in
-    rw (passes (checkVoice1 (a .w)) (a .«record») (speakIf (a .known || sound (a .«record»)) (a .«record») (a .w)) (sym (ap (λ (x : Screened). x .answer) (s .ensures)) ∙ c .before .before .before .before .if1 .taken)) (c .before .before .speak-up .ensures)
+    rw (passes (checkVoice1 (a .rule) (a .w)) (a .«record») (speakIf (a .known || sound (a .«record»)) (a .«record») (a .w)) (sym (ap (λ (x : Screened). x .answer) (s .ensures)) ∙ c .before .before .before .before .if1 .taken)) (c .before .before .speak-up .ensures)
 
 returns-2 : tie.Need-returns-2
 returns-2 c =
     let a = c .before .before .before .before .before .before .args in
     let s = c .before .before .before .before .check-voice1 in
     rw (c .stays .ensures, c .before .refuse .ensures)
-    (check-refused _ (a .past) (a .w) (a .«record») (now (a .out)) (s .result) (c .before .before .before .before .before .before .pre .1) (s .ensures) (c .before .before .if1 .left))
+    (check-refused (a .rule) _ (a .past) (a .w) (a .«record») (now (a .out)) (s .result) (c .before .before .before .before .before .before .pre .1) (s .ensures) (c .before .before .if1 .left))
 
 pub voice-up-spec : {M : Type 1} → statement M
 voice-up-spec =
