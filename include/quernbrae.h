@@ -29,6 +29,7 @@ enum {
     QUERNBRAE_NOT_SOUND = 8,      /* going up, and of a mark: the record of the channel breaks 5.2 */
     QUERNBRAE_NO_ROOM = 9,        /* the output cannot hold what the packet sends (3.4) */
     QUERNBRAE_NO_TABLE = 10,      /* the table has more or fewer than 256 records */
+    QUERNBRAE_NOT_FOR_ROOM = 23,  /* in the beginners' room: good, but not on its list (2.5) */
     QUERNBRAE_OUT_OF_RANGE = 24   /* of a question or a mark: a group or a channel above 15 (5.8, 5.9) */
 };
 
@@ -77,7 +78,7 @@ enum { QUERNBRAE_NO_KEY = 255 };
 quernbrae_record quernbrae_empty(void);
 
 /* One call up, for the packet at the start of words (docs/RULES.md, 6).
- * After answers 2 to 10 table and output are as they were. After 0 and 1 the record of the packet's channel may have
+ * After answers 2 to 10, and 23, table and output are as they were. After 0 and 1 the record of the packet's channel may have
  * changed, and the words written are the only other change (3.3). */
 quernbrae_done quernbrae_up(const uint32_t *words, size_t words_len,
                             quernbrae_record *table, size_t table_len,
@@ -88,6 +89,17 @@ quernbrae_done quernbrae_up(const uint32_t *words, size_t words_len,
 quernbrae_done quernbrae_run_up(const uint32_t *words, size_t words_len,
                                 quernbrae_record *table, size_t table_len,
                                 uint32_t *out, size_t out_len);
+
+/* One call up in the beginners' room, where notes, bend, six controllers and MT 0 pass and all else that is good is
+ * answered 23 (docs/RULES.md, 2.5). What passes is treated as by quernbrae_up. */
+quernbrae_done quernbrae_beginners_up(const uint32_t *words, size_t words_len,
+                                      quernbrae_record *table, size_t table_len,
+                                      uint32_t *out, size_t out_len);
+
+/* A run up in the beginners' room. It goes on after 23. */
+quernbrae_done quernbrae_beginners_run_up(const uint32_t *words, size_t words_len,
+                                          quernbrae_record *table, size_t table_len,
+                                          uint32_t *out, size_t out_len);
 
 /* A lesson run: a run up over all the words from a fresh table of its own (docs/RULES.md, 4.2).
  * Channel c of group g is marked coarse there where bit c of coarse[g] is 1. Groups past the end of coarse have no
