@@ -17,7 +17,7 @@ use Rattle.ump.specs.Word.{channelOf, groupOf, data1, messageType, status, voic
 use Rattle.ump.specs.Packet.{cut, first, packet}
 use Rattle.stream.specs.Call.{Call, leftOf, refused, sentOf, stopped, went}
 use Rattle.stream.proofs.CallLaws.{refusal}
-use Rattle.screen.specs.Screen.{beginnersController, beginnersRule, forBeginners, goesOn, screenBy, screened}
+use Rattle.screen.specs.Screen.{beginnersController, beginnersRule, forBeginners, goesOn, outside, screenBy}
 use Rattle.screen.proofs.ScreenLaws.{for-room, not-for-room}
 use Rattle.memory.specs.declared.Memory.{Memory}
 use Rattle.memory.specs.Memory as Memory
@@ -171,7 +171,7 @@ blank-start : (t : List Record) → EmptyButMarks t → Each BlankAt t
 blank-start t m k = ap (λ (r : Record). r .memory) (m .each k)
 
 pub proved-beginners : Beginners
-unfolding beginnersOneUp beginnersRunUp
+unfolding beginnersOneUp beginnersRunUp outside
 proved-beginners =
     record {
       answers = up-answer beginnersRule;

@@ -19,7 +19,7 @@ use Rattle.screen.specs.declared.Rule.{Rule}
 use Rattle.screen.specs.Screen.{openRule}
 use Rattle.channel.specs.declared.Record.{Record}
 use Rattle.channel.specs.Record.{wholeTable}
-use Rattle.voice.specs.Packet.{callDown, runDown}
+use Rattle.voice.specs.Packet.{callDownBy, runDownBy}
 use Rattle.table.specs.Table.{runUp, tableBy, tableUp}
 use Rattle.claims.specs.PacketByPacket.{ByPackets, PacketByPacket}
 use Rattle.claims.proofs.StepLaws.{down-stops, up-length, up-stops}
@@ -62,10 +62,11 @@ up-by-packets rule =
     within-does (tableBy rule false) (λ _. Unit {0}) NotSent (λ e. omega arith) u p
     (up-stops NotSent (λ e. omega arith) (λ e. omega arith) (λ e. omega arith) rule (u .1) p))
 
-down-by-packets : ByPackets (within callDown)
-down-by-packets =
-    by-packets (within callDown) (λ u p. within-does callDown (λ _. Unit {0}) NotSent (λ e. omega arith) u p
-    (down-stops NotSent (λ e. omega arith) (u .1) p))
+pub down-by-packets : (rule : Rule) → ByPackets (within (callDownBy rule))
+down-by-packets rule =
+    by-packets (within (callDownBy rule)) (λ u p.
+    within-does (callDownBy rule) (λ _. Unit {0}) NotSent (λ e. omega arith) u p
+    (down-stops NotSent (λ e. omega arith) rule (u .1) p))
 
 -- a run in an output leaves a whole table whole
 pub stays-whole : (ps : List (List ℕ)) (room : ℕ) (t : List Record) → length t ≡ wholeTable
@@ -103,14 +104,14 @@ up-in-two room t ps s h =
     rw (no-table room t (joined ps ++ s) no-whole, no-table room t (joined ps) no-whole))
 
 pub proved-packet-by-packet : PacketByPacket
-unfolding runDown
+unfolding runDownBy
 proved-packet-by-packet =
     record {
       up = up-by-packets openRule;
-      down = down-by-packets;
+      down = down-by-packets openRule;
       run-up = run-up;
       no-table = no-table;
       run-down = λ room s. refl;
       up-in-two = up-in-two;
-      down-in-two = λ room ps s h. down-by-packets .in-two (room, tt) ps s h;
+      down-in-two = λ room ps s h. down-by-packets openRule .in-two (room, tt) ps s h;
     }

@@ -13,60 +13,70 @@ use Rattle.ump.specs.Word.{channelOf, groupOf, messageType, placeOf, voice1, vo
 use Rattle.ump.specs.Packet.{first, packet, second, size}
 use Rattle.ump.proofs.PacketLaws.{packet-four}
 use Rattle.stream.specs.Answers.{badData, badStatus, cutPacket, noForm, noRoom, noTable, notSound, reservedType, sent}
-use Rattle.stream.specs.Answers.{notForRoom, stopsRun, takenIn, wrongProtocol}
+use Rattle.stream.specs.Answers.{notForRoom, notYours, stopsRun, takenIn, wrongProtocol}
 use Rattle.stream.specs.Call.{Call, answerOf, fit, leftOf, readOf, refused, sentOf, went, within}
 use Rattle.stream.proofs.CallLaws.{refusal, refused-fits}
 use Rattle.stream.proofs.RunLaws.{does-left, within-does}
 use Rattle.fields.specs.Check.{badPlaceOf, checkedFields, goodFields, goodStatus}
 use Rattle.screen.specs.declared.Rule.{Rule}
-use Rattle.screen.specs.Screen.{admitted, answering, forBeginners, goesOn, openRule, reserved, screen, screenBy}
+use Rattle.screen.specs.Screen.{admitted, answering, forBeginners, goesOn, openRule, outside, reserved, screenBy}
 use Rattle.screen.proofs.ScreenLaws.{passed}
 use Rattle.channel.specs.declared.Record.{Record}
 use Rattle.channel.specs.Record.{empty, sound, wholeTable}
 use Rattle.message.specs.Message.{read2, write1, write2}
 use Rattle.lower.specs.Lower.{lower}
-use Rattle.voice.specs.Packet.{callDown}
+use Rattle.voice.specs.Packet.{callDownBy}
 use Rattle.voice.proofs.PacketLaws.{down-cases, few-down}
 use Rattle.table.specs.Table.{tableBy}
-use Rattle.claims.specs.Refusals.{ByAnswer, Case, Refusals, case, casesDown, casesOf, numbered}
+use Rattle.claims.specs.Refusals.{ByAnswer, Case, Refusals, case, numbered}
 use Rattle.claims.proofs.StreamLaws.{standing}
 use Rattle.claims.proofs.StepLaws.{has-words, reads-words, refuses-above, table-cases, up-calls}
 
--- the case of a rule, which does not hold where the rule is the open one
-abbrev ruled : Rule → List ℕ → Case
-ruled rule p = case notForRoom (rule .beginners && not (forBeginners (first p)))
+-- the cases of the screening under a rule, of which the open one has neither 13 nor 23
+abbrev casesWith : Rule → ℕ → List ℕ → List Case
+casesWith rule wrong p =
+    case cutPacket (eqb (length p) 0)
+    ∷ case reservedType (reserved (messageType (first p)))
+    ∷ case wrongProtocol (eqb (messageType (first p)) wrong)
+    ∷ case notYours (outside rule (first p))
+    ∷ case badStatus (not (goodStatus (first p)))
+    ∷ case badData (not (goodFields (checkedFields (first p) (second p))))
+    ∷ case notForRoom (rule .beginners && not (forBeginners (first p)))
+    ∷ []
 
--- the cases of the screening, and then others: the screening decides, or the others do
+-- these cases, and then others: the screening decides, or the others do
 screening : (rule : Rule) (wrong : ℕ) (p : List ℕ) (cs : List Case)
-    → numbered (casesOf wrong p ++ ruled rule p ∷ cs)
+    → numbered (casesWith rule wrong p ++ cs)
     ≡ cond (eqb (screenBy rule wrong p .answer) goesOn) (numbered cs) (screenBy rule wrong p .answer)
 unfolding screenBy admitted
 screening rule wrong p cs =
     go (eqb (length p) 0) (reserved (messageType (first p))) (eqb (messageType (first p)) wrong)
-    (not (goodStatus (first p)))
+    (outside rule (first p)) (not (goodStatus (first p)))
     (goodFields (checkedFields (first p) (second p))) (rule .beginners) (forBeginners (first p))
   where
-    go : (a b c d e f g : Bool) →
+    go : (a b c o d e f g : Bool) →
         let x = cond a (answering cutPacket) (cond b (answering reservedType) (cond c (answering wrongProtocol)
+        (cond o (answering notYours)
         (cond d (answering badStatus) (cond e (answering (cond f (cond g goesOn notForRoom) goesOn))
-        (record { answer = badData; place = badPlaceOf p }))))) in
+        (record { answer = badData; place = badPlaceOf p })))))) in
         numbered
-        (case cutPacket a ∷ case reservedType b ∷ case wrongProtocol c ∷ case badStatus d ∷ case badData (not e)
-        ∷ case notForRoom (f && not g) ∷ cs)
+        (case cutPacket a ∷ case reservedType b ∷ case wrongProtocol c ∷ case notYours o ∷ case badStatus d
+        ∷ case badData (not e) ∷ case notForRoom (f && not g) ∷ cs)
         ≡ cond (eqb (x .answer) goesOn) (numbered cs) (x .answer)
-    go true b c d e f g = refl
-    go false true c d e f g = refl
-    go false false true d e f g = refl
-    go false false false true e f g = refl
-    go false false false false true true true = refl
-    go false false false false true true false = refl
-    go false false false false true false g = refl
-    go false false false false false f g = refl
+    go true b c o d e f g = refl
+    go false true c o d e f g = refl
+    go false false true o d e f g = refl
+    go false false false true d e f g = refl
+    go false false false false true e f g = refl
+    go false false false false false true true true = refl
+    go false false false false false true true false = refl
+    go false false false false false true false g = refl
+    go false false false false false false f g = refl
 
 -- what a refusal by the screening, and a packet that goes on, come to among the cases
 refused-row : {T : Type 0} (rule : Rule) (room wrong : ℕ) (p : List ℕ) (t : T) (cs : List Case)
     → (screenBy rule wrong p .answer ≡ goesOn → ⊥)
-    → answerOf (fit room (refused (screenBy rule wrong p .answer) t)) ≡ numbered (casesOf wrong p ++ ruled rule p ∷ cs)
+    → answerOf (fit room (refused (screenBy rule wrong p .answer) t)) ≡ numbered (casesWith rule wrong p ++ cs)
 refused-row {T} rule room wrong p t cs n =
     let a = screenBy rule wrong p .answer in
     rw (
@@ -77,7 +87,7 @@ refused-row {T} rule room wrong p t cs n =
     )
 
 onward-row : (rule : Rule) (wrong : ℕ) (p : List ℕ) (cs : List Case) → screenBy rule wrong p .answer ≡ goesOn
-    → numbered (casesOf wrong p ++ ruled rule p ∷ cs) ≡ numbered cs
+    → numbered (casesWith rule wrong p ++ cs) ≡ numbered cs
 onward-row rule wrong p cs f = screening rule wrong p cs ∙ rw f
 
 -- room or not: the answer of a call that sends so many words
@@ -91,9 +101,8 @@ roomed-answer room a ws u =
 abbrev casesBy : Rule → ℕ → List Record → List ℕ → List Case
 casesBy rule room t s =
     case noTable (not (eqb (length t) wholeTable))
-    ∷ casesOf voice2 (packet s)
-    ++ ruled rule (packet s)
-    ∷ case notSound (eqb (messageType (first (packet s))) voice1 && not (sound (getD t (placeOf (first s)) empty)))
+    ∷ casesWith rule voice2 (packet s)
+    ++ case notSound (eqb (messageType (first (packet s))) voice1 && not (sound (getD t (placeOf (first s)) empty)))
     ∷ case noRoom (ltb room (length (sentOf (tableBy rule false t s))))
     ∷ case takenIn (eqb (length (sentOf (tableBy rule false t s))) 0)
     ∷ []
@@ -104,7 +113,7 @@ unfolding within
 up-answer rule room t s =
     table-cases (λ (c : Call (List Record)).
     answerOf (fit room c) ≡ cond (not (eqb (length t) wholeTable)) noTable
-    (numbered (casesOf voice2 p ++ ruled rule p ∷ last (sentOf c)))) rule t s
+    (numbered (casesWith rule voice2 p ++ last (sentOf c)))) rule t s
     (λ e. rw e) (λ full. rw full (record {
       refuses = refused-row rule room voice2 p t (last (sentOf (refused (screenBy rule voice2 p .answer) t)));
       onward = λ f e.
@@ -124,17 +133,28 @@ up-answer rule room t s =
         case notSound (eqb (messageType (first p)) voice1 && not (sound (getD t (placeOf (first s)) empty)))
         ∷ case noRoom (ltb room (length ws)) ∷ case takenIn (eqb (length ws) 0) ∷ []
 
-down-answer : (room : ℕ) (s : List ℕ) → answerOf (within callDown (room, tt) s) ≡ numbered (casesDown room s)
-unfolding within callDown
-down-answer room s =
-    down-cases (λ (c : Call (Unit {0})). answerOf (fit room c) ≡ numbered (casesOf voice1 p ++ last (sentOf c))) p
+-- and down
+abbrev casesDownBy : Rule → ℕ → List ℕ → List Case
+casesDownBy rule room s =
+    casesWith rule voice1 (packet s)
+    ++ case noForm (eqb (messageType (first (packet s))) voice2
+    && eqb (length (lower (read2 (first (packet s)) (second (packet s))))) 0)
+    ∷ case noRoom (ltb room (length (sentOf (callDownBy rule tt s))))
+    ∷ []
+
+pub down-answer : (rule : Rule) (room : ℕ) (s : List ℕ)
+    → answerOf (within (callDownBy rule) (room, tt) s) ≡ numbered (casesDownBy rule room s)
+unfolding within callDownBy
+down-answer rule room s =
+    down-cases (λ (c : Call (Unit {0})). answerOf (fit room c) ≡ numbered (casesWith rule voice1 p ++ last (sentOf c)))
+    rule p
     (record {
-      refuses = refused-row openRule room voice1 p tt (last (sentOf (refused (screen voice1 p .answer) tt)));
-      onward = λ f e. rw (onward-row openRule voice1 p (last p) f, e) (roomed-answer room sent p tt);
-      formless = λ f e k. rw (leb·zero room, onward-row openRule voice1 p (last []) f, e, k);
+      refuses = refused-row rule room voice1 p tt (last (sentOf (refused (screenBy rule voice1 p .answer) tt)));
+      onward = λ f e. rw (onward-row rule voice1 p (last p) f, e) (roomed-answer room sent p tt);
+      formless = λ f e k. rw (leb·zero room, onward-row rule voice1 p (last []) f, e, k);
       sends = λ f e m ms k.
           let ws = map (write1 (groupOf (first p)) (channelOf (first p))) (m ∷ ms) in
-          rw (onward-row openRule voice1 p (last ws) f, e, k, eqb·suc-zero (length ms)) (roomed-answer room sent ws tt);
+          rw (onward-row rule voice1 p (last ws) f, e, k, eqb·suc-zero (length ms)) (roomed-answer room sent ws tt);
     })
   where
     p : List ℕ
@@ -202,18 +222,18 @@ up-shape rule t s =
     not-both′ : {X : Type 0} → true ≡ false → X
     not-both′ e = not-both (sym e)
 
-down-shape : (s : List ℕ) → Shape tt s (callDown tt s)
-unfolding callDown refused
-down-shape s =
+down-shape : (rule : Rule) (s : List ℕ) → Shape tt s (callDownBy rule tt s)
+unfolding callDownBy refused
+down-shape rule s =
     let p = packet s in
-    down-cases (λ (c : Call (Unit {0})). length (sentOf c) ≤ 4 → Shape tt s c) p (record {
-      refuses = λ n _. refusing (refuses-above openRule voice1 p n) (reads-words openRule voice1 p);
-      onward = λ f _ h. sending (has-words openRule voice1 p f) (has-words openRule voice1 p f) h;
-      formless = λ f _ _ _. refusing {a = noForm} (omega arith) (λ _. has-words openRule voice1 p f);
+    down-cases (λ (c : Call (Unit {0})). length (sentOf c) ≤ 4 → Shape tt s c) rule p (record {
+      refuses = λ n _. refusing (refuses-above rule voice1 p n) (reads-words rule voice1 p);
+      onward = λ f _ h. sending (has-words rule voice1 p f) (has-words rule voice1 p f) h;
+      formless = λ f _ _ _. refusing {a = noForm} (omega arith) (λ _. has-words rule voice1 p f);
       sends = λ f _ m ms _ h.
-          sending {ws = map (write1 (groupOf (first p)) (channelOf (first p))) (m ∷ ms)} (has-words openRule voice1 p f)
+          sending {ws = map (write1 (groupOf (first p)) (channelOf (first p))) (m ∷ ms)} (has-words rule voice1 p f)
           (omega arith) h;
-    }) (few-down p (packet-four s))
+    }) (few-down rule p (packet-four s))
 
 -- what holds of the table with any own record holds of the table after
 after-call : (I : List Record → Type 0) (rule : Rule) (room : ℕ) (t : List Record) (s : List ℕ) → I t
@@ -236,14 +256,19 @@ other-records rule room t s k n =
     after-call (λ (u : List Record). getD u k empty ≡ getD t k empty) rule room t s refl
     (λ r. getD-set-other t (placeOf (first s)) k r empty n)
 
-pub proved-refusals : Refusals
+pub after-down : (rule : Rule) (room : ℕ) (s : List ℕ)
+    → ByAnswer (room, tt) s (within (callDownBy rule) (room, tt) s)
 unfolding within
+after-down rule room s = by-answer room tt s (callDownBy rule tt s) (down-shape rule s)
+
+pub proved-refusals : Refusals
+unfolding outside
 proved-refusals =
     record {
       up = up-answer openRule;
-      down = down-answer;
+      down = down-answer openRule;
       after-up = after-up openRule;
-      after-down = λ room s. by-answer room tt s (callDown tt s) (down-shape s);
+      after-down = after-down openRule;
       records = other-records openRule;
       table = λ room t s.
           after-call (λ (u : List Record). length u ≡ length t) openRule room t s refl

@@ -15,7 +15,7 @@ use Rattle.stream.specs.Run.{Ran, run}
 use Rattle.stream.proofs.RunLaws.{Does, ample, bounded, cut-size, roomy, run-does}
 use Rattle.screen.specs.declared.Rule.{Rule}
 use Rattle.screen.specs.Screen.{openRule}
-use Rattle.voice.specs.Packet.{callDown}
+use Rattle.voice.specs.Packet.{callDownBy}
 use Rattle.table.specs.Table.{tableBy}
 use Rattle.claims.specs.Room.{Room, Roomy}
 use Rattle.claims.proofs.StepLaws.{twice-down, down-stops, twice-up, up-stops}
@@ -64,6 +64,9 @@ up-roomy rule =
     all-roomy (tableBy rule false) (up-stops NotNine (λ e. omega arith) (λ e. omega arith) (λ e. omega arith) rule)
     (twice-up rule)
 
+-- and down
+pub down-roomy : (rule : Rule) → Roomy (callDownBy rule)
+down-roomy rule = all-roomy (callDownBy rule) (down-stops NotNine (λ e. omega arith) rule) (twice-down rule)
+
 pub proved-room : Room
-proved-room =
-    record { up = up-roomy openRule; down = all-roomy callDown (down-stops NotNine (λ e. omega arith)) twice-down }
+proved-room = record { up = up-roomy openRule; down = down-roomy openRule }

@@ -20,7 +20,7 @@ use Rattle.stream.specs.Answers.{sent, stopsRun}
 use Rattle.stream.specs.Call.{Call, leftOf, refused, sentOf, stopped, went, within}
 use Rattle.stream.specs.Run.{run}
 use Rattle.stream.proofs.RunLaws.{roomed-sends}
-use Rattle.screen.specs.Screen.{admitted, goesOn, openRule, screen, screenBy, screened}
+use Rattle.screen.specs.Screen.{admitted, goesOn, openRule, outside, screen, screenBy, screened}
 use Rattle.screen.proofs.ScreenLaws.{passed}
 use Rattle.memory.specs.declared.Memory.{Memory}
 use Rattle.memory.specs.Memory.{marked, unmarked}
@@ -32,7 +32,7 @@ use Rattle.lift.specs.Lift.{banked2, lift}
 use Rattle.lift.specs.Played.{recordAfter}
 use Rattle.lift.proofs.LiftLaws.{Upward, lift-marks, lift-sound, lift-upward, read1-fits, upward-fits}
 use Rattle.lower.specs.Lower.{lower}
-use Rattle.voice.specs.Packet.{callBy, callDown, packetDown, packetIf, runDown, sending, sendingDown, speakDown, speakIf}
+use Rattle.voice.specs.Packet.{callBy, callDown, callDownBy, packetDownBy, packetIf, runDownBy, sending, sendingDown, speakDown, speakIf}
 use Rattle.table.specs.Table.{runUp, stored, tableBy, tableUp}
 use Rattle.table.proofs.KeptLaws.{at-set, fresh-unmarked, marked-sound}
 use Rattle.claims.specs.Marks.{markOn}
@@ -57,7 +57,7 @@ module _ (g : Group) (c : Channel) (hg : g .0 < 16) (hc : c .0 < 16) where
   -- down at a message that going up can send
   down-spoken : (r : Memory) (m : Midi2) → banked2 r ≡ noBank → Upward (marked r) m
       → callDown tt (write2 g c m) ≡ went sent (map (write1 g c) (lower m)) tt
-  unfolding callDown packetDown screened speakDown
+  unfolding callDownBy packetDownBy screened speakDown
   down-spoken r m w h =
       let p = place2 g c hg hc m (upward-fits m h) in
       rw (
@@ -115,7 +115,7 @@ up-onward t p l w f e =
 
 down-onward : (p : List ℕ) → Whole p → screen voice2 p .answer ≡ goesOn → eqb (messageType (first p)) voice1 ≡ false
     → callDown tt p ≡ went sent p tt
-unfolding callDown packetDown screened screenBy admitted
+unfolding callDownBy packetDownBy screened screenBy outside admitted
 down-onward p w f e =
     let x = passed openRule voice2 p f in
     rw (packet-whole p w, x .some, x .free, e, x .status, x .data-fields, x .right)
@@ -310,7 +310,7 @@ returns passes up gate still t y s =
     (undone passes up gate marks) (cut s) t t tt (y .whole, λ k. refl) (y, λ k. refl)
 
 pub proved-round-trip-gated : RoundTripGated
-unfolding runDown
+unfolding runDownBy
 proved-round-trip-gated passes up gate still t y s a b c =
     rw (eq-eqb (length t) wholeTable (y .whole)) (λ hx hy hz.
     let u = run (within up) (a, t) (cut s) in

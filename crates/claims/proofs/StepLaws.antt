@@ -17,11 +17,11 @@ use Rattle.stream.specs.Call.{Call, refused, sentOf, stopped}
 use Rattle.stream.proofs.CallLaws.{refusal}
 use Rattle.stream.proofs.RunLaws.{Does}
 use Rattle.screen.specs.declared.Rule.{Rule}
-use Rattle.screen.specs.Screen.{goesOn, openRule, screen, screenBy}
+use Rattle.screen.specs.Screen.{goesOn, screenBy}
 use Rattle.screen.proofs.ScreenLaws.{passed, refused-above}
 use Rattle.channel.specs.declared.Record.{Record}
 use Rattle.channel.specs.Record.{empty, sound, wholeTable}
-use Rattle.voice.specs.Packet.{callBy, callDown}
+use Rattle.voice.specs.Packet.{callBy, callDownBy}
 use Rattle.voice.proofs.PacketLaws.{UpCases, down-cases, down-does, few-down, up-cases, up-does}
 use Rattle.table.specs.Table.{stored, tableBy}
 use Rattle.table.proofs.KeptLaws.{table-does}
@@ -90,9 +90,10 @@ pub up-stops : (A : ℕ → Type 0) → A cutPacket → A notSound → A noTable
     → Does (λ _. Unit {0}) A (tableBy rule false t s)
 up-stops A three eight ten rule t s = up-calls (λ _. Unit {0}) A three eight ten rule t s (λ _. tt)
 
-pub down-stops : (A : ℕ → Type 0) → A cutPacket → (u : Unit {0}) (s : List ℕ) → Does (λ _. Unit {0}) A (callDown u s)
-unfolding callDown
-down-stops A three u s = down-does A (packet s) three
+pub down-stops : (A : ℕ → Type 0) → A cutPacket → (rule : Rule) (u : Unit {0}) (s : List ℕ)
+    → Does (λ _. Unit {0}) A (callDownBy rule u s)
+unfolding callDownBy
+down-stops A three rule u s = down-does A rule (packet s) three
 
 -- no call sends more than two words for each word that it was given
 none-sent : {T : Type 0} (a : ℕ) (t : T) (n : ℕ) → length (sentOf (refused a t)) ≤ n
@@ -110,17 +111,17 @@ twice-up rule t s =
       sends = λ f _ _ _ _. omega (arith, has-words rule voice2 p f);
     })
 
-pub twice-down : (u : Unit {0}) (s : List ℕ) → length (sentOf (callDown u s)) ≤ 2 * length s
-unfolding callDown size
-twice-down u s =
+pub twice-down : (rule : Rule) (u : Unit {0}) (s : List ℕ) → length (sentOf (callDownBy rule u s)) ≤ 2 * length s
+unfolding callDownBy size
+twice-down rule u s =
     let p = packet s in
     let l = packet-length s in
-    down-cases (λ (c : Call (Unit {0})). length (sentOf c) ≤ 4 → length (sentOf c) ≤ 2 * length s) p (record {
-      refuses = λ _ _. none-sent (screen voice1 p .answer) tt (2 * length s);
+    down-cases (λ (c : Call (Unit {0})). length (sentOf c) ≤ 4 → length (sentOf c) ≤ 2 * length s) rule p (record {
+      refuses = λ _ _. none-sent (screenBy rule voice1 p .answer) tt (2 * length s);
       onward = λ _ _ _. omega arith;
       formless = λ _ _ _ _. omega arith;
       sends = λ f e _ _ _ h.
-          let x = standing s (has-words openRule voice1 p f) in
+          let x = standing s (has-words rule voice1 p f) in
           let n : length p ≡ 2 = x .2 ∙ rw (x .1, eqb-true (messageType (first p)) voice2 e) in
           omega arith;
-    }) (few-down p (packet-four s))
+    }) (few-down rule p (packet-four s))

@@ -13,7 +13,7 @@ use Rattle.stream.specs.Run.{Ran}
 use Rattle.stream.proofs.RunLaws.{words-read}
 use Rattle.channel.specs.declared.Record.{Record}
 use Rattle.channel.specs.Record.{wholeTable}
-use Rattle.voice.specs.Packet.{runDown}
+use Rattle.voice.specs.Packet.{runDown, runDownBy}
 use Rattle.table.specs.Table.{runUp}
 use Rattle.flow.specs.Listing.{runLines}
 
@@ -34,7 +34,7 @@ lines-read room t ws d =
     (choose (λ (r : Ran (ℕ × List Record)). r .read ≤ length ws) (eqb (length t) wholeTable) (λ _. words-read _ _ ws) (λ _. omega arith))
 
 pub down-reads : (room : ℕ) (ws : List ℕ) (d : Done) → d ≡ reported (runDown room ws) → d .read ≤ length ws
-unfolding runDown
+unfolding runDownBy
 down-reads room ws d = reads-most (runDown room ws) (length ws) d (words-read _ _ ws)
 
 -- what an output of the same length holds was room for

@@ -139,7 +139,7 @@ calls-at ws d q text r x four e h = rw e at h
 -- ---- the step
 
 pub up-few : (r : Record) (s : List ℕ) → length (sentOf (packetUp r (packet s))) ≤ 4
-up-few r s = few-up r (packet s) (packet-four s)
+up-few r s = few-up openRule r (packet s) (packet-four s)
 
 pub up-cut : (r : Record) (p : List ℕ) → length p ≡ 0 → packetUp r p ≡ stopped cutPacket
 unfolding packetIf screenBy screened refused

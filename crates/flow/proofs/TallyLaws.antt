@@ -18,8 +18,8 @@ use Rattle.stream.specs.declared.Done.{Done}
 use Rattle.stream.specs.Answers.{sent}
 use Rattle.stream.specs.Call.{Call, answerOf, fit, sentOf, stopped, went}
 use Rattle.stream.specs.Report.{counting, placeTold}
-use Rattle.screen.specs.Screen.{screen}
-use Rattle.voice.specs.Packet.{callDown, packetDown}
+use Rattle.screen.specs.Screen.{openRule, screen}
+use Rattle.voice.specs.Packet.{callDownBy, packetDown}
 use Rattle.voice.specs.Turn.{reportOf}
 use Rattle.voice.proofs.PacketLaws.{few-down}
 use Rattle.flow.specs.Tally.{sortBy, tally, tallyBy, times, sorts}
@@ -78,7 +78,7 @@ tally-more xs a =
 
 -- the sort at a place is that of the piece that is cut there
 sort-near : (down : Bool) (w : ℕ) (s : List ℕ) → sortBy down (take (size w) (w ∷ s)) ≡ sortBy down (w ∷ s)
-unfolding callDown
+unfolding callDownBy
 sort-near true w s =
     ap (λ (p : List ℕ). answerOf (packetDown p) + placeTold (answerOf (packetDown p)) p) (packet-near w s)
 sort-near false w s = ap (λ (p : List ℕ). screen voice2 p .answer + screen voice2 p .place) (packet-near w s)
@@ -91,11 +91,11 @@ four-fit (stopped a) h = refl
 pub down-sort : (down : Bool) (ws : List ℕ) (i : ℕ) (r : Done) → down ≡ true
     → r ≡ reportOf (counting sent i 0) (packet (drop i ws)) (replicate 4 0) (packetDown (packet (drop i ws)))
     → r .answer + r .place ≡ sortBy down (drop i ws)
-unfolding callDown
+unfolding callDownBy
 down-sort down ws i r e f =
     let p = packet (drop i ws) in
     rw e (ap (λ (x : Done). x .answer + x .place) f
-    ∙ ap (λ (a : ℕ). a + placeTold a p) (four-fit (packetDown p) (few-down p (packet-four (drop i ws)))))
+    ∙ ap (λ (a : ℕ). a + placeTold a p) (four-fit (packetDown p) (few-down openRule p (packet-four (drop i ws)))))
 
 module _ (down : Bool) (ws : List ℕ) where
   abbrev rest : ℕ → List ℕ

@@ -93,7 +93,7 @@ pub fn down_some(words: &[u32], out: &mut [u32]) -> ReportAndCounts
     ensures output { λ _. ⌜ now (out .exit)
         ≡ atStart (runDown (length (now (out .entry))) (now (words .entry)) .sends) (now (out .entry)) ⌝ }
 {
-    let done = voice::run_down(words, out);
+    let done = voice::run_down(words, out, screen::open_rule());
     let read = done.read;
     let counts = tally_of(true, &words[..read]);
     ReportAndCounts { done, counts }

@@ -29,7 +29,7 @@ fn sort_at(down: bool, words: &[u32], at: usize) -> u64
 {
     if down {
         let mut four = [0u32; 4];
-        let done = voice::down(words, report(SENT, at, 0), &mut four);
+        let done = voice::down(words, report(SENT, at, 0), &mut four, screen::open_rule());
         done.answer as u64 + done.place as u64
     } else {
         let screened = screen::screen(MIDI2_VOICE, ump::packet_at(words, at));

@@ -2,6 +2,7 @@
 -- Assumes nothing.
 use mathlib.Core.Path.{_≡_, refl}
 use Prim.Native.Nat.{ℕ}
+use mathlib.Core.Bool.{true, false}
 use mathlib.Core.List.{List}
 use native.Mathlib.Nat.{sub-zero, zero-add}
 use lib.ListN.{length}
@@ -12,8 +13,10 @@ use Rattle.stream.specs.Call.{Call, fit, readOf, sentOf, within}
 use Rattle.stream.specs.declared.Done.{Done}
 use Rattle.stream.specs.Report.{nothingYet, reported, reportedCall}
 use Rattle.stream.specs.Run.{Ran}
+use Rattle.screen.specs.declared.Rule.{Rule}
 use Rattle.channel.specs.declared.Record.{Record}
-use Rattle.voice.specs.Packet.{callDown, oneDown, packetDown}
+use Rattle.hosts.specs.Hosts.{hostJob, hostOneUp, hostRunUp}
+use Rattle.voice.specs.Packet.{callDownBy, oneDownBy, packetDownBy}
 use Rattle.voice.specs.Turn.{next, outputOf, reportOf}
 use Rattle.table.specs.Table.{beginnersOneUp, beginnersRunUp, oneUp, runUp, tableAfter}
 use Rattle.table.specs.Job.{asked, beginnersCall, beginnersRun, oneCall, tableStep, wholeRun}
@@ -41,10 +44,20 @@ pub beginners-run-said : (ws : List ℕ) (tb : List Record) (out : List ℕ)
 unfolding asked tableStep beginnersRunUp
 beginners-run-said ws tb out = (refl, refl, refl)
 
-pub down-said : (ws out : List ℕ) → let p = next ws nothingYet in
-    (reportOf nothingYet p out (packetDown p) ≡ reportedCall (packet ws) (oneDown (length out) ws))
-    × (outputOf nothingYet out (packetDown p) ≡ atStart (oneDown (length out) ws .sends) out)
-unfolding oneDown within callDown
-down-said ws out =
-    let c : Call (ℕ × Unit {0}) = fit (length out) (packetDown (packet ws)) in
+pub host-one-said : (host : ℕ) (owners ws : List ℕ) (tb : List Record) (out : List ℕ)
+    → Told (reportedCall (packet ws)) (asked (hostJob host owners true) (length out) tb ws) (hostOneUp host owners (length out) tb ws) out
+unfolding asked tableStep hostOneUp
+host-one-said host owners ws tb out = (refl, refl, refl)
+
+pub host-run-said : (host : ℕ) (owners ws : List ℕ) (tb : List Record) (out : List ℕ)
+    → Told reported (asked (hostJob host owners false) (length out) tb ws) (hostRunUp host owners (length out) tb ws) out
+unfolding asked tableStep hostRunUp
+host-run-said host owners ws tb out = (refl, refl, refl)
+
+pub down-said : (rule : Rule) (ws out : List ℕ) → let p = next ws nothingYet in
+    (reportOf nothingYet p out (packetDownBy rule p) ≡ reportedCall (packet ws) (oneDownBy rule (length out) ws))
+    × (outputOf nothingYet out (packetDownBy rule p) ≡ atStart (oneDownBy rule (length out) ws .sends) out)
+unfolding oneDownBy within callDownBy
+down-said rule ws out =
+    let c : Call (ℕ × Unit {0}) = fit (length out) (packetDownBy rule (packet ws)) in
     rw (sub-zero (length out)) (rw (zero-add (readOf (packet ws) c), zero-add (length (sentOf c))), start-written (sentOf c) out)

@@ -16,6 +16,8 @@ ghost use Rattle.stream.specs.Report.{reported, reportedCall};
 ghost use Rattle.channel.specs.Record.{empty};
 ghost use Rattle.question.specs.Question.{keysAsked};
 ghost use Rattle.mark.specs.Mark.{markAnswer, tableMarked};
+ghost use Rattle.hosts.specs.Hosts.{hostKeysAsked, hostMarkAnswer, hostOneDown, hostOneUp, hostRunDown, hostRunUp};
+ghost use Rattle.hosts.specs.Hosts.{hostTableMarked};
 ghost use Rattle.lesson.specs.Lesson.{lesson, lessonReport};
 ghost use Rattle.voice.specs.Packet.{oneDown, runDown};
 ghost use Rattle.table.specs.Table.{beginnersOneUp, beginnersRunUp, oneUp, runUp, tableAfter};
@@ -101,6 +103,44 @@ pub extern "C" fn quernbrae_lesson(words: &[u32], coarse: &[u16], out: &mut [u32
     lesson::run(words, coarse, out)
 }
 
+// One call up for a host, which is refused whatever is of a group that it does not own.
+#[no_mangle]
+pub extern "C" fn quernbrae_host_up(
+    host: u8,
+    owners: &[u8],
+    words: &[u32],
+    table: &mut [Record],
+    out: &mut [u32],
+) -> Done
+    ensures report { λ r. ⌜ r ≡ reportedCall (packet (now (words .entry))) (hostOneUp host (now (owners .entry))
+        (length (now (out .entry))) (now (table .entry)) (now (words .entry))) ⌝ }
+    ensures table { λ _. ⌜ now (table .exit) ≡ tableAfter (hostOneUp host (now (owners .entry))
+        (length (now (out .entry))) (now (table .entry)) (now (words .entry))) ⌝ }
+    ensures output { λ _. ⌜ now (out .exit) ≡ atStart (hostOneUp host (now (owners .entry))
+        (length (now (out .entry))) (now (table .entry)) (now (words .entry)) .sends) (now (out .entry)) ⌝ }
+{
+    treat(words, hosts::host_job(host, owners, true), table, out)
+}
+
+// A run up for a host.
+#[no_mangle]
+pub extern "C" fn quernbrae_host_run_up(
+    host: u8,
+    owners: &[u8],
+    words: &[u32],
+    table: &mut [Record],
+    out: &mut [u32],
+) -> Done
+    ensures report { λ r. ⌜ r ≡ reported (hostRunUp host (now (owners .entry))
+        (length (now (out .entry))) (now (table .entry)) (now (words .entry))) ⌝ }
+    ensures table { λ _. ⌜ now (table .exit) ≡ tableAfter (hostRunUp host (now (owners .entry))
+        (length (now (out .entry))) (now (table .entry)) (now (words .entry))) ⌝ }
+    ensures output { λ _. ⌜ now (out .exit) ≡ atStart (hostRunUp host (now (owners .entry))
+        (length (now (out .entry))) (now (table .entry)) (now (words .entry)) .sends) (now (out .entry)) ⌝ }
+{
+    treat(words, hosts::host_job(host, owners, false), table, out)
+}
+
 // One call down: the packet at the start of the words.
 #[no_mangle]
 pub extern "C" fn quernbrae_down(words: &[u32], out: &mut [u32]) -> Done
@@ -109,7 +149,12 @@ pub extern "C" fn quernbrae_down(words: &[u32], out: &mut [u32]) -> Done
     ensures output { λ _. ⌜ now (out .exit)
         ≡ atStart (oneDown (length (now (out .entry))) (now (words .entry)) .sends) (now (out .entry)) ⌝ }
 {
-    voice::down(words, stream::report(stream::SENT, 0, 0), out)
+    voice::down(
+        words,
+        stream::report(stream::SENT, 0, 0),
+        out,
+        screen::open_rule(),
+    )
 }
 
 // A run down: every packet of the words, until one stops it.
@@ -119,7 +164,46 @@ pub extern "C" fn quernbrae_run_down(words: &[u32], out: &mut [u32]) -> Done
     ensures output { λ _. ⌜ now (out .exit)
         ≡ atStart (runDown (length (now (out .entry))) (now (words .entry)) .sends) (now (out .entry)) ⌝ }
 {
-    voice::run_down(words, out)
+    voice::run_down(words, out, screen::open_rule())
+}
+
+// One call down for a host.
+#[no_mangle]
+pub extern "C" fn quernbrae_host_down(
+    host: u8,
+    owners: &[u8],
+    words: &[u32],
+    out: &mut [u32],
+) -> Done
+    ensures report { λ r. ⌜ r ≡ reportedCall (packet (now (words .entry)))
+        (hostOneDown host (now (owners .entry)) (length (now (out .entry))) (now (words .entry))) ⌝ }
+    ensures output { λ _. ⌜ now (out .exit) ≡ atStart
+        (hostOneDown host (now (owners .entry)) (length (now (out .entry))) (now (words .entry)) .sends)
+        (now (out .entry)) ⌝ }
+{
+    voice::down(
+        words,
+        stream::report(stream::SENT, 0, 0),
+        out,
+        hosts::host_rule(host, owners),
+    )
+}
+
+// A run down for a host.
+#[no_mangle]
+pub extern "C" fn quernbrae_host_run_down(
+    host: u8,
+    owners: &[u8],
+    words: &[u32],
+    out: &mut [u32],
+) -> Done
+    ensures report { λ r. ⌜ r ≡ reported
+        (hostRunDown host (now (owners .entry)) (length (now (out .entry))) (now (words .entry))) ⌝ }
+    ensures output { λ _. ⌜ now (out .exit) ≡ atStart
+        (hostRunDown host (now (owners .entry)) (length (now (out .entry))) (now (words .entry)) .sends)
+        (now (out .entry)) ⌝ }
+{
+    voice::run_down(words, out, hosts::host_rule(host, owners))
 }
 
 // How many keys are down on a channel of a group, and the lowest.
@@ -129,6 +213,21 @@ pub extern "C" fn quernbrae_keys_down(table: &[Record], group: u8, channel: u8) 
 {
     let record = table::record_at(table, question::place_asked(group, channel));
     question::keys_told(table.len(), group, channel, record)
+}
+
+// The same for a host, of its own groups.
+#[no_mangle]
+pub extern "C" fn quernbrae_host_keys_down(
+    host: u8,
+    owners: &[u8],
+    table: &[Record],
+    group: u8,
+    channel: u8,
+) -> KeysDown
+    ensures { λ r. ⌜ r ≡ hostKeysAsked host (now (owners .entry)) (now (table .entry)) group channel ⌝ }
+{
+    let record = table::record_at(table, question::place_asked(group, channel));
+    hosts::host_keys_told(host, owners, table.len(), group, channel, record)
 }
 
 // Any number but 0 marks a channel of a group coarse, and 0 takes the mark off.
@@ -151,5 +250,31 @@ pub extern "C" fn quernbrae_mark_coarse(
         marked.answer
     } else {
         mark::unnamed(n)
+    }
+}
+
+// The same for a host, of its own groups.
+#[no_mangle]
+pub extern "C" fn quernbrae_host_mark_coarse(
+    host: u8,
+    owners: &[u8],
+    table: &mut [Record],
+    group: u8,
+    channel: u8,
+    coarse: u8,
+) -> u32
+    ensures answer { λ r. ⌜ r ≡ hostMarkAnswer host (now (owners .entry)) (now (table .entry)) group channel ⌝ }
+    ensures table { λ _. ⌜ now (table .exit)
+        ≡ hostTableMarked host (now (owners .entry)) (now (table .entry)) group channel coarse ⌝ }
+{
+    let n = table.len();
+    if hosts::may_mark(host, owners, n, group, channel) {
+        let i = question::place_asked(group, channel);
+        let marked = mark::marking(table[i], coarse);
+        let after = marked.after;
+        table[i] = after;
+        marked.answer
+    } else {
+        hosts::unmarked(n, group, channel)
     }
 }

@@ -49,7 +49,8 @@ fn lowest_told(lowest: Lowest) -> u32
     }
 }
 
-fn showing_none(answer: u32) -> KeysDown
+// Without keys, by an answer.
+pub fn showing_none(answer: u32) -> KeysDown
     ensures { λ r. ⌜ r ≡ showingNone answer ⌝ }
 {
     KeysDown {

@@ -1,7 +1,7 @@
 -- Laws of the screening: a MIDI 1.0 voice message is screened by its one word; only a cut packet is refused by an answer
 -- that stops a run; the place goes with the answer; what passes, also under a rule. Assumes nothing.
-use mathlib.Core.Path.{_≡_, refl}
-use mathlib.Core.Bool.{Bool, true, false, cond, not}
+use mathlib.Core.Path.{_≡_, refl, sym, _∙_}
+use mathlib.Core.Bool.{Bool, true, false, true≢false, cond, not}
 use mathlib.Core.List.{List, [], _∷_}
 use Prim.Native.Nat.{ℕ}
 use native.Mathlib.Omega.{arith}
@@ -12,8 +12,8 @@ use Rattle.ground.proofs.Cases.{choose, not-both}
 use Rattle.ump.specs.Word.{messageType, voice2}
 use Rattle.ump.specs.Packet.{first, second}
 use Rattle.ump.proofs.PacketLaws.{at-none}
-use Rattle.stream.specs.Answers.{badData, badStatus, cutPacket, notForRoom, reservedType, stopsRun, takenIn}
-use Rattle.stream.specs.Answers.{wrongProtocol}
+use Rattle.stream.specs.Answers.{badData, badStatus, cutPacket, notForRoom, notYours, reservedType, stopsRun}
+use Rattle.stream.specs.Answers.{takenIn, wrongProtocol}
 use Rattle.stream.specs.Call.{Call, refused}
 use Rattle.stream.specs.Report.{placeTold}
 use Rattle.screen.specs.declared.Rule.{Rule}
@@ -21,7 +21,7 @@ use Rattle.screen.specs.declared.Screened.{Screened}
 use Rattle.fields.specs.Check.{Field, badPlace, badPlaceOf, checkedFields, goodFields, goodStatus, voice1Fields}
 use Rattle.fields.specs.Check.{voice1Status}
 use Rattle.screen.specs.Screen.{admitted, answering, beginnersRule, checkVoice1, checking, forBeginners}
-use Rattle.screen.specs.Screen.{goesOn, reserved, screen, screenBy, screened}
+use Rattle.screen.specs.Screen.{fencedRule, goesOn, outside, reserved, screen, screenBy, screened}
 
 -- a MIDI 1.0 voice message, going up
 pub screen-voice1 : (rule : Rule) (w : ℕ) → messageType w ≡ 2 → screenBy rule voice2 (w ∷ []) ≡ checkVoice1 rule w
@@ -45,23 +45,24 @@ checks P b fs rule w status fields room good =
     (λ e. fields (eqb-false (badPlace fs) 0 e)))
 
 screens : (P : Screened → Type 0) (rule : Rule) (wrong : ℕ) (p : List ℕ) → (p ≡ [] → P (answering cutPacket))
-    → P (answering reservedType) → P (answering wrongProtocol) → P (answering badStatus)
+    → P (answering reservedType) → P (answering wrongProtocol) → P (answering notYours) → P (answering badStatus)
     → ((badPlaceOf p ≡ 0 → ⊥) → P (record { answer = badData; place = badPlaceOf p }))
     → P (answering notForRoom)
     → P (answering goesOn) → P (screenBy rule wrong p)
 unfolding screenBy
-screens P rule wrong p none reserved-type protocol status fields room good =
+screens P rule wrong p none reserved-type protocol fence status fields room good =
     choose P (eqb (length p) 0) (λ e. none (at-none p (eqb-true (length p) 0 e)))
     (λ _. choose P (reserved (messageType (first p))) (λ _. reserved-type)
     (λ _. choose P (eqb (messageType (first p)) wrong) (λ _. protocol)
-    (λ _. checks P (goodStatus (first p)) (checkedFields (first p) (second p)) rule (first p) status fields room good)))
+    (λ _. choose P (outside rule (first p)) (λ _. fence)
+    (λ _. checks P (goodStatus (first p)) (checkedFields (first p) (second p)) rule (first p) status fields room good))))
 
 -- the place goes with the answer
 pub screen-place : (rule : Rule) (wrong : ℕ) (p : List ℕ)
     → screenBy rule wrong p .place ≡ placeTold (screenBy rule wrong p .answer) p
 screen-place rule wrong p =
     screens (λ (s : Screened). s .place ≡ placeTold (s .answer) p) rule wrong p
-    (λ _. refl) refl refl refl (λ _. refl) refl refl
+    (λ _. refl) refl refl refl refl (λ _. refl) refl refl
 
 pub check-place : (rule : Rule) (w : ℕ) → messageType w ≡ 2
     → checkVoice1 rule w .place ≡ placeTold (checkVoice1 rule w .answer) (w ∷ [])
@@ -71,13 +72,14 @@ check-place rule w h = rw (screen-voice1 rule w h) at (screen-place rule voice2 
 pub cut-only : (rule : Rule) (wrong : ℕ) (p : List ℕ) → stopsRun (screenBy rule wrong p .answer) ≡ true → p ≡ []
 cut-only rule wrong p =
     screens (λ (s : Screened). stopsRun (s .answer) ≡ true → p ≡ []) rule wrong p
-    (λ e _. e) not-both not-both not-both (λ _. not-both) not-both not-both
+    (λ e _. e) not-both not-both not-both not-both (λ _. not-both) not-both not-both
 
 pub check-goes-on : (rule : Rule) (w : ℕ) → stopsRun (checkVoice1 rule w .answer) ≡ false
 unfolding checkVoice1
 check-goes-on rule w =
-    checks (λ (s : Screened). stopsRun (s .answer) ≡ false) (voice1Status w) (voice1Fields w) rule w
-    refl (λ _. refl) refl refl
+    choose (λ (s : Screened). stopsRun (s .answer) ≡ false) (outside rule w) (λ _. refl)
+    (λ _. checks (λ (s : Screened). stopsRun (s .answer) ≡ false) (voice1Status w) (voice1Fields w) rule w
+    refl (λ _. refl) refl refl)
 
 -- a refusal is neither `sent` nor `takenIn`
 abbrev Above : Screened → Type 0
@@ -86,52 +88,59 @@ Above s = (s .answer ≡ goesOn → ⊥) → leb (s .answer) takenIn ≡ false
 pub refused-above : (rule : Rule) (wrong : ℕ) (p : List ℕ) → (screenBy rule wrong p .answer ≡ goesOn → ⊥)
     → leb (screenBy rule wrong p .answer) takenIn ≡ false
 refused-above rule wrong p =
-    screens Above rule wrong p (λ _ _. refl) (λ _. refl) (λ _. refl) (λ _. refl) (λ _ _. refl) (λ _. refl)
+    screens Above rule wrong p (λ _ _. refl) (λ _. refl) (λ _. refl) (λ _. refl) (λ _. refl) (λ _ _. refl) (λ _. refl)
     (λ n. absurd (n refl))
 
 pub check-above : (rule : Rule) (w : ℕ) → (checkVoice1 rule w .answer ≡ goesOn → ⊥)
     → leb (checkVoice1 rule w .answer) takenIn ≡ false
 unfolding checkVoice1
 check-above rule w =
-    checks Above (voice1Status w) (voice1Fields w) rule w (λ _. refl) (λ _ _. refl) (λ _. refl) (λ n. absurd (n refl))
+    choose Above (outside rule w) (λ _ _. refl)
+    (λ _. checks Above (voice1Status w) (voice1Fields w) rule w (λ _. refl) (λ _ _. refl) (λ _. refl)
+    (λ n. absurd (n refl)))
 
--- a packet that goes on is no empty part, and nothing is wrong with it
-pub record Passed (wrong : ℕ) (p : List ℕ) : Type 0 where
+-- a packet that goes on is no empty part, nothing is wrong with it, and it lies behind the fence
+pub record Passed (rule : Rule) (wrong : ℕ) (p : List ℕ) : Type 0 where
   pub some : eqb (length p) 0 ≡ false
   pub free : reserved (messageType (first p)) ≡ false
   pub right : eqb (messageType (first p)) wrong ≡ false
+  pub inside : outside rule (first p) ≡ false
   pub status : goodStatus (first p) ≡ true
   pub data-fields : goodFields (checkedFields (first p) (second p)) ≡ true
 
-pub passed : (rule : Rule) (wrong : ℕ) (p : List ℕ) → screenBy rule wrong p .answer ≡ goesOn → Passed wrong p
+pub passed : (rule : Rule) (wrong : ℕ) (p : List ℕ) → screenBy rule wrong p .answer ≡ goesOn → Passed rule wrong p
 unfolding screenBy
 passed rule wrong p =
-    go (eqb (length p) 0) (reserved (messageType (first p))) (eqb (messageType (first p)) wrong) (goodStatus (first p))
-    (goodFields (checkedFields (first p) (second p))) refl refl refl refl refl
+    go (eqb (length p) 0) (reserved (messageType (first p))) (eqb (messageType (first p)) wrong)
+    (outside rule (first p)) (goodStatus (first p))
+    (goodFields (checkedFields (first p) (second p))) refl refl refl refl refl refl
   where
-    go : (a b c d e : Bool) → eqb (length p) 0 ≡ a → reserved (messageType (first p)) ≡ b
-        → eqb (messageType (first p)) wrong ≡ c
+    go : (a b c f d e : Bool) → eqb (length p) 0 ≡ a → reserved (messageType (first p)) ≡ b
+        → eqb (messageType (first p)) wrong ≡ c → outside rule (first p) ≡ f
         → goodStatus (first p) ≡ d → goodFields (checkedFields (first p) (second p)) ≡ e
         → cond a (answering cutPacket) (cond b (answering reservedType) (cond c (answering wrongProtocol)
+        (cond f (answering notYours)
         (cond (not d) (answering badStatus)
-        (cond e (answering (admitted rule (first p))) (record { answer = badData; place = badPlaceOf p })))))
+        (cond e (answering (admitted rule (first p))) (record { answer = badData; place = badPlaceOf p }))))))
         .answer ≡ goesOn
-        → Passed wrong p
-    go true b c d e x y z v u h = absurd (omega (arith, h))
-    go false true c d e x y z v u h = absurd (omega (arith, h))
-    go false false true d e x y z v u h = absurd (omega (arith, h))
-    go false false false false e x y z v u h = absurd (omega (arith, h))
-    go false false false true false x y z v u h = absurd (omega (arith, h))
-    go false false false true true x y z v u h = record { some = x; free = y; right = z; status = v; data-fields = u }
+        → Passed rule wrong p
+    go true b c f d e x y z i v u h = absurd (omega (arith, h))
+    go false true c f d e x y z i v u h = absurd (omega (arith, h))
+    go false false true f d e x y z i v u h = absurd (omega (arith, h))
+    go false false false true d e x y z i v u h = absurd (omega (arith, h))
+    go false false false false false e x y z i v u h = absurd (omega (arith, h))
+    go false false false false true false x y z i v u h = absurd (omega (arith, h))
+    go false false false false true true x y z i v u h =
+        record { some = x; free = y; right = z; inside = i; status = v; data-fields = u }
 
 -- under the beginners' rule what is for that room is screened as without a rule; and what is not goes nowhere
 pub for-room : (wrong : ℕ) (p : List ℕ) → forBeginners (first p) ≡ true → screenBy beginnersRule wrong p ≡ screen wrong p
-unfolding screenBy admitted
+unfolding screenBy outside admitted
 for-room wrong p e = rw e
 
 pub not-for-room : (wrong : ℕ) (p : List ℕ) → forBeginners (first p) ≡ false
     → screenBy beginnersRule wrong p .answer ≡ goesOn → ⊥
-unfolding screenBy admitted
+unfolding screenBy outside admitted
 not-for-room wrong p n =
     rw n (choose Refuses (eqb (length p) 0) (λ _. no cutPacket refl)
     (λ _. choose Refuses (reserved (messageType (first p))) (λ _. no reservedType refl)
@@ -144,6 +153,16 @@ not-for-room wrong p n =
 
     no : (a : ℕ) → eqb a goesOn ≡ false → a ≡ goesOn → ⊥
     no a e = eqb-false a goesOn e
+
+-- under a fence what lies behind it is screened as without a rule; and what does not goes nowhere
+pub behind-fence : (groups wrong : ℕ) (p : List ℕ) → outside (fencedRule groups) (first p) ≡ false
+    → screenBy (fencedRule groups) wrong p ≡ screen wrong p
+unfolding screenBy admitted outside
+behind-fence groups wrong p e = rw e
+
+pub outside-fence : (rule : Rule) (wrong : ℕ) (p : List ℕ) → outside rule (first p) ≡ true
+    → screenBy rule wrong p .answer ≡ goesOn → ⊥
+outside-fence rule wrong p e f = true≢false (sym e ∙ passed rule wrong p f .inside)
 
 -- a screened call is the act, or one refusal
 pub screened-cases : {T : Type 0} (P : Call T → Type 0) (s : Screened) (t : T) (act : Call T)

@@ -1,12 +1,12 @@
--- The screening of a packet: the refusals before the act, in the order of RULES 3.2, with the rule of a room.
+-- The screening of a packet: the refusals before the act, in the order of RULES 3.2, with the rules of a room and of a fence.
 use Prim.Native.Nat.{ℕ}
 use mathlib.Core.Bool.{Bool, true, false, cond, not, _&&_, _||_}
 use mathlib.Core.List.{List}
 use lib.ListN.{length}
 use lib.Dec.{eqb, leb}
-use Rattle.ump.specs.Word.{data1, messageType, status, voice1}
+use Rattle.ump.specs.Word.{bits, data1, groupOf, messageType, status, voice1}
 use Rattle.ump.specs.Packet.{first, second}
-use Rattle.stream.specs.Answers.{badData, badStatus, cutPacket, notForRoom, reservedType, wrongProtocol}
+use Rattle.stream.specs.Answers.{badData, badStatus, cutPacket, notForRoom, notYours, reservedType, wrongProtocol}
 use Rattle.stream.specs.Call.{Call, refused}
 use Rattle.screen.specs.declared.Rule.{Rule}
 use Rattle.screen.specs.declared.Screened.{Screened}
@@ -20,12 +20,28 @@ answering a = record { answer = a; place = 0 }
 abbrev pub goesOn : ℕ
 goesOn = 0
 
--- The rules: none is asked of a packet beyond the check, and that of the beginners' room (RULES 2.5; 02 M-113).
+-- The rules: nothing is asked of a packet beyond the check; that of the beginners' room (RULES 2.5; 02 M-113); and that
+-- of a fence, behind which lie the groups whose bits are set in a number (RULES 2.6; 02 M-107).
 abbrev pub openRule : Rule
-openRule = record { beginners = false }
+openRule = record { beginners = false; fenced = false; groups = 0 }
 
 abbrev pub beginnersRule : Rule
-beginnersRule = record { beginners = true }
+beginnersRule = record { beginners = true; fenced = false; groups = 0 }
+
+abbrev pub fencedRule : ℕ → Rule
+fencedRule groups = record { beginners = false; fenced = true; groups = groups }
+
+-- the message types whose packets have a group
+abbrev pub grouped : ℕ → Bool
+grouped t = (leb 1 t && leb t 5) || eqb t 13
+
+-- a group's bit
+abbrev pub groupBit : ℕ → ℕ → Bool
+groupBit groups g = eqb (bits g 1 groups) 1
+
+-- a packet that has a group, and not one that the rule lets pass, by its first word
+unfoldable pub outside : Rule → ℕ → Bool
+outside rule w = rule .fenced && grouped (messageType w) && not (groupBit (rule .groups) (groupOf w .0))
 
 -- the controllers of that room
 abbrev pub beginnersController : ℕ → Bool
@@ -62,7 +78,8 @@ screenBy rule wrong p =
     cond (eqb (length p) 0) (answering cutPacket)
     (cond (reserved (messageType (first p))) (answering reservedType)
     (cond (eqb (messageType (first p)) wrong) (answering wrongProtocol)
-    (checking (goodStatus (first p)) (checkedFields (first p) (second p)) (admitted rule (first p)))))
+    (cond (outside rule (first p)) (answering notYours)
+    (checking (goodStatus (first p)) (checkedFields (first p) (second p)) (admitted rule (first p))))))
 
 -- where no rule holds
 abbrev pub screen : ℕ → List ℕ → Screened
@@ -70,7 +87,8 @@ screen = screenBy openRule
 
 -- the same of a packet that is known to be a MIDI 1.0 voice message, by its one word
 unfoldable pub checkVoice1 : Rule → ℕ → Screened
-checkVoice1 rule w = checking (voice1Status w) (voice1Fields w) (admitted rule w)
+checkVoice1 rule w =
+    cond (outside rule w) (answering notYours) (checking (voice1Status w) (voice1Fields w) (admitted rule w))
 
 -- what a packet does in the state t, once it is screened: it is refused, or it acts
 unfoldable pub screened : {T : Type 0} → Screened → T → Call T → Call T

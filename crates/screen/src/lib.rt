@@ -1,22 +1,25 @@
 // The screening of a packet: whatever can refuse it before it acts, in one place for both
-// directions. It asks the type (answers 3, 4 and 5), then the status (6), then the fields in packet
-// order (7), then the rule of the room (23), and needs no channel record.
+// directions. It asks the type (answers 3, 4 and 5), then the fence (13), then the status (6), then the
+// fields in packet order (7), then the rule of the room (23), and needs no channel record.
 //
 // Every function is total, and says what it finds by a definition of specs/.
 use stream::BAD_DATA;
 use stream::BAD_STATUS;
 use stream::CUT;
 use stream::NOT_FOR_ROOM;
+use stream::NOT_YOURS;
 use stream::RESERVED;
 use stream::WRONG_PROTOCOL;
+use ump::Group;
 use ump::MIDI1_VOICE;
 use ump::message_type;
 use ump::word_at;
 ghost use mathlib.Core.Path.{_≡_};
+ghost use Prim.Native.Nat.{_<_};
 ghost use Rattle.fields.specs.Check.{checkedFields, goodStatus};
 ghost use Rattle.screen.specs.Screen.{admitted, answering, beginnersController};
-ghost use Rattle.screen.specs.Screen.{checkVoice1, checking, forBeginners, openRule, placed};
-ghost use Rattle.screen.specs.Screen.{reserved, screenBy};
+ghost use Rattle.screen.specs.Screen.{checkVoice1, checking, forBeginners, groupBit, grouped};
+ghost use Rattle.screen.specs.Screen.{openRule, outside, placed, reserved, screenBy};
 ghost use Rattle.screen.specs.Screen;
 
 // What the screening finds of a packet: the answer that refuses it, or `GOES_ON`; and the place of the
@@ -29,22 +32,56 @@ pub struct Screened {
 // The packet goes on to the act.
 pub const GOES_ON: u32 = 0;
 
-// What is asked of a good packet besides: whether it is for the beginners' room.
+// What is asked of a packet besides: of a good one whether it is for the beginners' room; and of one
+// with a group whether that lies behind the fence, where the bits of `groups` are set.
 pub struct Rule {
     pub beginners: bool,
+    pub fenced: bool,
+    pub groups: u32,
 }
 
 // Nothing is asked besides.
 pub fn open_rule() -> Rule
     ensures { λ r. ⌜ r ≡ openRule ⌝ }
 {
-    Rule { beginners: false }
+    Rule {
+        beginners: false,
+        fenced: false,
+        groups: 0,
+    }
 }
 
 fn is_reserved(t: u32) -> bool
     ensures { λ r. ⌜ r ≡ reserved t ⌝ }
 {
     ((6 <= t) & (t <= 12)) | (t == 14)
+}
+
+// Whether the packets of a message type have a group.
+fn is_grouped(t: u32) -> bool
+    ensures { λ r. ⌜ r ≡ grouped t ⌝ }
+{
+    ((1 <= t) & (t <= 5)) | (t == 13)
+}
+
+// Whether a group's bit is set.
+fn has_group(groups: u32, group: Group) -> bool
+    requires { ⌜ group .0 < 16 ⌝ }
+    ensures { λ r. ⌜ r ≡ groupBit groups (group .0) ⌝ }
+{
+    let g = group.0;
+    (groups >> (g as u32)) % 2 == 1
+}
+
+// Whether a packet lies outside the fence, by its first word.
+fn is_outside(rule: Rule, w: u32) -> bool
+    ensures { λ r. ⌜ r ≡ outside rule w ⌝ }
+{
+    if rule.fenced {
+        is_grouped(message_type(w)) & !has_group(rule.groups, ump::group_of(w))
+    } else {
+        false
+    }
 }
 
 fn is_beginners_controller(i: u8) -> bool
@@ -115,6 +152,9 @@ fn check(rule: Rule, w: u32, v: u32) -> Screened
 pub fn check_voice1(rule: Rule, w: u32) -> Screened
     ensures { λ r. ⌜ r ≡ checkVoice1 rule w ⌝ }
 {
+    if is_outside(rule, w) {
+        return finding(NOT_YOURS);
+    }
     if fields::is_voice1_status(w) {
         if fields::is_good_voice1(w) {
             finding(admit(rule, w))
@@ -141,6 +181,9 @@ pub fn screen_by(rule: Rule, wrong: u32, packet: &[u32]) -> Screened
     }
     if t == wrong {
         return finding(WRONG_PROTOCOL);
+    }
+    if is_outside(rule, w) {
+        return finding(NOT_YOURS);
     }
     check(rule, w, word_at(packet, 1))
 }

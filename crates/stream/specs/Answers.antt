@@ -36,6 +36,10 @@ noRoom = 9
 abbrev pub noTable : ℕ
 noTable = 10
 
+-- of a group that is not the host's (02 M-107)
+abbrev pub notYours : ℕ
+notYours = 13
+
 -- good, but not for this room (02 M-113)
 abbrev pub notForRoom : ℕ
 notForRoom = 23

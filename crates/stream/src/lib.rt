@@ -37,6 +37,9 @@ pub const NO_ROOM: u32 = 9;
 // Going up: the table is not a whole one.
 pub const NO_TABLE: u32 = 10;
 
+// Of a group that does not belong to the host.
+pub const NOT_YOURS: u32 = 13;
+
 // Going up under the beginners' rule: good, but not for this room.
 pub const NOT_FOR_ROOM: u32 = 23;
 

@@ -55,7 +55,11 @@ pub fn one_call() -> Job
     Job {
         once: true,
         known: false,
-        rule: Rule { beginners: false },
+        rule: Rule {
+            beginners: false,
+            fenced: false,
+            groups: 0,
+        },
     }
 }
 
@@ -65,7 +69,11 @@ pub fn whole_run() -> Job
     Job {
         once: false,
         known: false,
-        rule: Rule { beginners: false },
+        rule: Rule {
+            beginners: false,
+            fenced: false,
+            groups: 0,
+        },
     }
 }
 
@@ -76,7 +84,11 @@ pub fn known_run() -> Job
     Job {
         once: false,
         known: true,
-        rule: Rule { beginners: false },
+        rule: Rule {
+            beginners: false,
+            fenced: false,
+            groups: 0,
+        },
     }
 }
 
@@ -87,7 +99,11 @@ pub fn beginners_call() -> Job
     Job {
         once: true,
         known: false,
-        rule: Rule { beginners: true },
+        rule: Rule {
+            beginners: true,
+            fenced: false,
+            groups: 0,
+        },
     }
 }
 
@@ -98,7 +114,11 @@ pub fn beginners_run() -> Job
     Job {
         once: false,
         known: false,
-        rule: Rule { beginners: true },
+        rule: Rule {
+            beginners: true,
+            fenced: false,
+            groups: 0,
+        },
     }
 }
 

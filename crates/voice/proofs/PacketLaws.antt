@@ -22,7 +22,7 @@ use Rattle.stream.proofs.CallLaws.{refusal, refused-fits}
 use Rattle.stream.proofs.RunLaws.{Does}
 use Rattle.stream.proofs.RunLoop.{Inside}
 use Rattle.screen.specs.declared.Rule.{Rule}
-use Rattle.screen.specs.Screen.{checkVoice1, goesOn, openRule, screen, screenBy, screened}
+use Rattle.screen.specs.Screen.{checkVoice1, goesOn, screenBy, screened}
 use Rattle.screen.proofs.ScreenLaws.{cut-only, refused-above, screen-voice1, screened-cases}
 use Rattle.channel.specs.declared.Record.{Record}
 use Rattle.channel.specs.Record.{sound}
@@ -32,13 +32,14 @@ use Rattle.lift.specs.Played.{recordAfter}
 use Rattle.lift.proofs.EffectLaws.{effect-does}
 use Rattle.lower.specs.Lower.{lower}
 use Rattle.lower.proofs.LowerLaws.{lower-few}
-use Rattle.voice.specs.Packet.{actDown, actIf, callBy, callDown, packetDown, packetIf, packetUp, sending}
+use Rattle.voice.specs.Packet.{actDown, actIf, callBy, callDownBy, packetDownBy, packetIf, sending}
 use Rattle.voice.specs.Packet.{effectAt, sendingDown, speakDown, speakIf}
 use Rattle.voice.specs.Turn.{effectBy}
 
-pub down-near : (t : Unit {0}) (w : ℕ) (s : List ℕ) → callDown t (take (size w) (w ∷ s)) ≡ callDown t (w ∷ s)
-unfolding callDown
-down-near t w s = rw (packet-near w s)
+pub down-near : (rule : Rule) (t : Unit {0}) (w : ℕ) (s : List ℕ)
+    → callDownBy rule t (take (size w) (w ∷ s)) ≡ callDownBy rule t (w ∷ s)
+unfolding callDownBy
+down-near rule t w s = rw (packet-near w s)
 
 -- what stops where no packet is whole goes on only with a whole one
 packet-inside : {T : Type 0} (act : List ℕ → Call T) → act [] ≡ stopped cutPacket → (w : ℕ) (s : List ℕ)
@@ -57,9 +58,9 @@ pub up-inside : (rule : Rule) (known : Bool) (r : Record) (w : ℕ) (s : List �
 unfolding callBy packetIf screenBy screened refused
 up-inside rule known r w s = packet-inside (packetIf rule (known || sound r) r) refl w s
 
-pub down-inside : (t : Unit {0}) (w : ℕ) (s : List ℕ) → Inside (w ∷ s) (callDown t (w ∷ s))
-unfolding callDown packetDown screenBy screened refused
-down-inside t w s = packet-inside packetDown refl w s
+pub down-inside : (rule : Rule) (t : Unit {0}) (w : ℕ) (s : List ℕ) → Inside (w ∷ s) (callDownBy rule t (w ∷ s))
+unfolding callDownBy packetDownBy screenBy screened refused
+down-inside rule t w s = packet-inside (packetDownBy rule) refl w s
 
 -- What a call up comes to under a rule at the packet p, whose first word is w, with the record r, of which `ok` says that
 -- it is sound: refused, sent on, or a voice message. In a state t, where `put` puts a record back.
@@ -97,25 +98,25 @@ up-cases P rule ok r p u =
     go f e h (some m) k = u .sends f e h m k
 
 -- and what a call down comes to
-pub record DownCases (P : Call (Unit {0}) → Type 0) (p : List ℕ) : Type 0 where
-  pub refuses : (screen voice1 p .answer ≡ goesOn → ⊥) → P (refused (screen voice1 p .answer) tt)
-  pub onward : screen voice1 p .answer ≡ goesOn → eqb (messageType (first p)) voice2 ≡ false → P (went sent p tt)
-  pub formless : screen voice1 p .answer ≡ goesOn → eqb (messageType (first p)) voice2 ≡ true
+pub record DownCases (P : Call (Unit {0}) → Type 0) (rule : Rule) (p : List ℕ) : Type 0 where
+  pub refuses : (screenBy rule voice1 p .answer ≡ goesOn → ⊥) → P (refused (screenBy rule voice1 p .answer) tt)
+  pub onward : screenBy rule voice1 p .answer ≡ goesOn → eqb (messageType (first p)) voice2 ≡ false → P (went sent p tt)
+  pub formless : screenBy rule voice1 p .answer ≡ goesOn → eqb (messageType (first p)) voice2 ≡ true
       → lower (read2 (first p) (second p)) ≡ [] → P (went noForm [] tt)
-  pub sends : screen voice1 p .answer ≡ goesOn → eqb (messageType (first p)) voice2 ≡ true
+  pub sends : screenBy rule voice1 p .answer ≡ goesOn → eqb (messageType (first p)) voice2 ≡ true
       → (m : Midi1) (ms : List Midi1)
       → lower (read2 (first p) (second p)) ≡ m ∷ ms
       → P (went sent (map (write1 (groupOf (first p)) (channelOf (first p))) (m ∷ ms)) tt)
 
-pub down-cases : (P : Call (Unit {0}) → Type 0) (p : List ℕ) → DownCases P p → P (packetDown p)
-unfolding packetDown speakDown
-down-cases P p d =
-    screened-cases P (screen voice1 p) tt (actDown p)
+pub down-cases : (P : Call (Unit {0}) → Type 0) (rule : Rule) (p : List ℕ) → DownCases P rule p → P (packetDownBy rule p)
+unfolding packetDownBy speakDown
+down-cases P rule p d =
+    screened-cases P (screenBy rule voice1 p) tt (actDown p)
     (λ f. choose P (eqb (messageType (first p)) voice2) (λ e. go f e (lower (read2 (first p) (second p))) refl)
     (d .onward f))
     (d .refuses)
   where
-    go : screen voice1 p .answer ≡ goesOn → eqb (messageType (first p)) voice2 ≡ true → (ms : List Midi1)
+    go : screenBy rule voice1 p .answer ≡ goesOn → eqb (messageType (first p)) voice2 ≡ true → (ms : List Midi1)
         → lower (read2 (first p) (second p)) ≡ ms → P (sendingDown (groupOf (first p)) (channelOf (first p)) ms)
     go f e [] k = d .formless f e k
     go f e (m ∷ ms) k = d .sends f e m ms k
@@ -144,11 +145,12 @@ up-does I A rule r p h three eight after =
       sends = λ f v e _ _. after f v e;
     })
 
-pub down-does : (A : ℕ → Type 0) (p : List ℕ) → A cutPacket → Does (λ _. Unit {0}) A (packetDown p)
-down-does A p three =
-    down-cases (Does (λ _. Unit {0}) A) p
+pub down-does : (A : ℕ → Type 0) (rule : Rule) (p : List ℕ) → A cutPacket
+    → Does (λ _. Unit {0}) A (packetDownBy rule p)
+down-does A rule p three =
+    down-cases (Does (λ _. Unit {0}) A) rule p
     (record {
-      refuses = λ _. refused-does (λ _. Unit {0}) A openRule voice1 p tt tt three;
+      refuses = λ _. refused-does (λ _. Unit {0}) A rule voice1 p tt tt three;
       onward = λ _ _. tt;
       formless = λ _ _ _. tt;
       sends = λ _ _ _ _ _. tt;
@@ -161,22 +163,23 @@ UpToFour c = length (sentOf c) ≤ 4
 refused-four : {T : Type 0} (a : ℕ) (t : T) → UpToFour (refused a t)
 refused-four a t = rw (refusal a t [] (λ _. refl) .2) (omega arith)
 
-pub few-up : (r : Record) (p : List ℕ) → length p ≤ 4 → length (sentOf (packetUp r p)) ≤ 4
-few-up r p h =
-    up-cases UpToFour openRule (sound r) r p
+pub few-up : (rule : Rule) (r : Record) (p : List ℕ) → length p ≤ 4
+    → length (sentOf (packetIf rule (sound r) r p)) ≤ 4
+few-up rule r p h =
+    up-cases UpToFour rule (sound r) r p
     (record {
-      refuses = λ _. refused-four (screen voice2 p .answer) r;
+      refuses = λ _. refused-four (screenBy rule voice2 p .answer) r;
       onward = λ _ _. h;
       unsound = λ _ _ _. omega arith;
       takes = λ _ _ _ _. omega arith;
       sends = λ _ _ _ _ _. omega arith;
     })
 
-pub few-down : (p : List ℕ) → length p ≤ 4 → length (sentOf (packetDown p)) ≤ 4
-few-down p h =
-    down-cases UpToFour p
+pub few-down : (rule : Rule) (p : List ℕ) → length p ≤ 4 → length (sentOf (packetDownBy rule p)) ≤ 4
+few-down rule p h =
+    down-cases UpToFour rule p
     (record {
-      refuses = λ _. refused-four (screen voice1 p .answer) tt;
+      refuses = λ _. refused-four (screenBy rule voice1 p .answer) tt;
       onward = λ _ _. h;
       formless = λ _ _ _. omega arith;
       sends = λ _ _ m ms k.

@@ -24,7 +24,7 @@ use Rattle.stream.specs.Report.{counting, placeTold, placing}
 use Rattle.stream.proofs.CallLaws.{refusal, refused-fits}
 use Rattle.screen.specs.declared.Rule.{Rule}
 use Rattle.screen.specs.declared.Screened.{Screened}
-use Rattle.screen.specs.Screen.{checkVoice1, goesOn, openRule, screen, screenBy, screened}
+use Rattle.screen.specs.Screen.{checkVoice1, goesOn, screenBy, screened}
 use Rattle.screen.proofs.ScreenLaws.{check-above, check-goes-on, check-place, cut-only, screen-place}
 use Rattle.channel.specs.declared.Record.{Record}
 use Rattle.channel.specs.Record.{sound}
@@ -40,7 +40,7 @@ use Rattle.lower.specs.Values.{packed, wordsIn}
 use Rattle.lower.proofs.LowerLaws.{lower-few}
 use Rattle.voice.specs.declared.EffectAndReport.{EffectAndReport}
 use Rattle.voice.specs.Output.{sentWords}
-use Rattle.voice.specs.Packet.{effectAt, onwardOf, packetDown, packetIf, sending, sendingDown, speakDown, speakIf, spoken, voiceDown}
+use Rattle.voice.specs.Packet.{effectAt, onwardOf, packetDownBy, packetIf, sending, sendingDown, speakDown, speakIf, spoken, voiceDown}
 use Rattle.voice.specs.Turn.{effectBy, inRoom, next, outputAfter, outputOf, reportAfter, reportOf, turned}
 use Rattle.voice.proofs.PacketLaws.{packet-voice1}
 
@@ -257,13 +257,14 @@ module _ (d : Done) (p out : List ℕ) (r : Done) (o : List ℕ) where
             sent-comes x (map (write1 (groupOf w) (channelOf w)) (m ∷ ms)) k (omega (arith, l, length-map ms (write1 (groupOf w) (channelOf w)))) f g
 
 -- going down, a packet that is a MIDI 2.0 voice message, and one that is not
-pub down-voice : (p : List ℕ) → messageType (first p) ≡ voice2 → packetDown p ≡ screened (screen voice1 p) tt (voiceDown p)
-unfolding packetDown
-down-voice p e = rw e
+pub down-voice : (rule : Rule) (p : List ℕ) → messageType (first p) ≡ voice2
+    → packetDownBy rule p ≡ screened (screenBy rule voice1 p) tt (voiceDown p)
+unfolding packetDownBy
+down-voice rule p e = rw e
 
-pub down-other : (p : List ℕ) → (messageType (first p) ≡ voice2 → ⊥) → packetDown p ≡ onwardOf openRule voice1 p
-unfolding packetDown
-down-other p n = rw (ne-eqb (messageType (first p)) voice2 n)
+pub down-other : (rule : Rule) (p : List ℕ) → (messageType (first p) ≡ voice2 → ⊥) → packetDownBy rule p ≡ onwardOf rule voice1 p
+unfolding packetDownBy
+down-other rule p n = rw (ne-eqb (messageType (first p)) voice2 n)
 
 -- at most as many words as are left, and at most four
 pub next-fits : (ws : List ℕ) (i : ℕ) → length ws < 2 ^ 64 → i < 2 ^ 64 → i + length (packet (drop i ws)) < 2 ^ 64

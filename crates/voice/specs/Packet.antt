@@ -12,7 +12,7 @@ use Rattle.stream.specs.Answers.{noForm, notSound, sent, takenIn}
 use Rattle.stream.specs.Call.{Call, stopped, went, within}
 use Rattle.stream.specs.Run.{Ran, called, run}
 use Rattle.screen.specs.declared.Rule.{Rule}
-use Rattle.screen.specs.Screen.{openRule, screen, screenBy, screened}
+use Rattle.screen.specs.Screen.{openRule, screenBy, screened}
 use Rattle.channel.specs.declared.Record.{Record}
 use Rattle.channel.specs.Record.{sound}
 use Rattle.message.specs.Message.{Midi1, Midi2, read1, read2, write1, write2}
@@ -52,15 +52,18 @@ actIf ok r p = cond (eqb (messageType (first p)) voice1) (speakIf ok r (first p)
 abbrev pub actDown : List ℕ → Call (Unit {0})
 actDown p = cond (eqb (messageType (first p)) voice2) (voiceDown p) (went sent p tt)
 
--- What a packet does, going up with its own record under a rule; and going down, where no record is needed.
+-- What a packet does under a rule, going up with its own record; and going down, where no record is needed.
 unfoldable pub packetIf : Rule → Bool → Record → List ℕ → Call Record
 packetIf rule ok r p = screened (screenBy rule voice2 p) r (actIf ok r p)
 
 abbrev pub packetUp : Record → List ℕ → Call Record
 packetUp r p = packetIf openRule (sound r) r p
 
-unfoldable pub packetDown : List ℕ → Call (Unit {0})
-packetDown p = screened (screen voice1 p) tt (actDown p)
+unfoldable pub packetDownBy : Rule → List ℕ → Call (Unit {0})
+packetDownBy rule p = screened (screenBy rule voice1 p) tt (actDown p)
+
+abbrev pub packetDown : List ℕ → Call (Unit {0})
+packetDown = packetDownBy openRule
 
 -- the same for a packet that is no voice message of either protocol, or of the wrong one
 abbrev pub onwardOf : Rule → ℕ → List ℕ → Call (Unit {0})
@@ -78,12 +81,21 @@ callBy rule known r s = packetIf rule (known || sound r) r (packet s)
 abbrev pub callUp : Record → List ℕ → Call Record
 callUp = callBy openRule false
 
-unfoldable pub callDown : Unit {0} → List ℕ → Call (Unit {0})
-callDown t s = packetDown (packet s)
+unfoldable pub callDownBy : Rule → Unit {0} → List ℕ → Call (Unit {0})
+callDownBy rule t s = packetDownBy rule (packet s)
+
+abbrev pub callDown : Unit {0} → List ℕ → Call (Unit {0})
+callDown = callDownBy openRule
 
 -- one call down, told as a run is, and a run down, in an output of so many words
-unfoldable pub oneDown : ℕ → List ℕ → Ran (ℕ × Unit {0})
-oneDown room s = called (packet s) (room, tt) (within callDown (room, tt) s)
+unfoldable pub oneDownBy : Rule → ℕ → List ℕ → Ran (ℕ × Unit {0})
+oneDownBy rule room s = called (packet s) (room, tt) (within (callDownBy rule) (room, tt) s)
 
-unfoldable pub runDown : ℕ → List ℕ → Ran (ℕ × Unit {0})
-runDown room s = run (within callDown) (room, tt) (cut s)
+abbrev pub oneDown : ℕ → List ℕ → Ran (ℕ × Unit {0})
+oneDown = oneDownBy openRule
+
+unfoldable pub runDownBy : Rule → ℕ → List ℕ → Ran (ℕ × Unit {0})
+runDownBy rule room s = run (within (callDownBy rule)) (room, tt) (cut s)
+
+abbrev pub runDown : ℕ → List ℕ → Ran (ℕ × Unit {0})
+runDown = runDownBy openRule

@@ -3,7 +3,7 @@ use crate::output::onward;
 use crate::output::refuse;
 use crate::output::send;
 use screen::GOES_ON;
-use screen::open_rule;
+use screen::Rule;
 use stream::Done;
 use stream::NO_FORM;
 use stream::SENT;
@@ -17,9 +17,8 @@ ghost use lib.ListN.{length};
 ghost use Rattle.ump.specs.Word.{voice1};
 ghost use Rattle.ground.specs.Store.{atStart};
 ghost use Rattle.stream.specs.Report.{reported};
-ghost use Rattle.screen.specs.Screen.{screened};
-ghost use Rattle.screen.specs.Screen;
-ghost use Rattle.voice.specs.Packet.{packetDown, runDown, voiceDown};
+ghost use Rattle.screen.specs.Screen.{screenBy, screened};
+ghost use Rattle.voice.specs.Packet.{packetDownBy, runDownBy, voiceDown};
 ghost use Rattle.voice.specs.Turn.{next, outputOf, reportOf};
 
 // A checked MIDI 2.0 voice message.
@@ -38,14 +37,14 @@ fn speak_down(past: Done, packet: &[u32], out: &mut [u32]) -> Done
 }
 
 // A MIDI 2.0 voice message, unless the screening refuses it.
-fn voice_down(past: Done, packet: &[u32], out: &mut [u32]) -> Done
+fn voice_down(past: Done, packet: &[u32], out: &mut [u32], rule: Rule) -> Done
     requires { ⌜ past .read + length (now packet) < 2 ^ 64 ⌝ }
     ensures report { λ r. ⌜ r ≡ reportOf past (now (packet .entry)) (now (out .entry))
-        (screened (Screen.screen voice1 (now (packet .entry))) tt (voiceDown (now (packet .entry)))) ⌝ }
+        (screened (screenBy rule voice1 (now (packet .entry))) tt (voiceDown (now (packet .entry)))) ⌝ }
     ensures output { λ _. ⌜ now (out .exit) ≡ outputOf past (now (out .entry))
-        (screened (Screen.screen voice1 (now (packet .entry))) tt (voiceDown (now (packet .entry)))) ⌝ }
+        (screened (screenBy rule voice1 (now (packet .entry))) tt (voiceDown (now (packet .entry)))) ⌝ }
 {
-    let screened = screen::screen(MIDI1_VOICE, packet);
+    let screened = screen::screen_by(rule, MIDI1_VOICE, packet);
     if screened.answer == GOES_ON {
         speak_down(past, packet, out)
     } else {
@@ -53,31 +52,31 @@ fn voice_down(past: Done, packet: &[u32], out: &mut [u32]) -> Done
     }
 }
 
-// The packet at a place of the words, after what was read and written so far.
-pub fn down(words: &[u32], past: Done, out: &mut [u32]) -> Done
+// The packet at a place of the words, after what was read and written so far, under a rule.
+pub fn down(words: &[u32], past: Done, out: &mut [u32], rule: Rule) -> Done
     ensures report { λ r. ⌜ r ≡ reportOf past (next (now (words .entry)) past) (now (out .entry))
-        (packetDown (next (now (words .entry)) past)) ⌝ }
+        (packetDownBy rule (next (now (words .entry)) past)) ⌝ }
     ensures output { λ _. ⌜ now (out .exit)
-        ≡ outputOf past (now (out .entry)) (packetDown (next (now (words .entry)) past)) ⌝ }
+        ≡ outputOf past (now (out .entry)) (packetDownBy rule (next (now (words .entry)) past)) ⌝ }
 {
     let packet = ump::packet_at(words, past.read);
     if ump::message_type(word_at(packet, 0)) == MIDI2_VOICE {
-        voice_down(past, packet, out)
+        voice_down(past, packet, out, rule)
     } else {
-        onward(MIDI1_VOICE, past, packet, out, open_rule())
+        onward(MIDI1_VOICE, past, packet, out, rule)
     }
 }
 
-// Every packet of the words, until one stops the run.
-pub fn run_down(words: &[u32], out: &mut [u32]) -> Done
-    ensures report { λ r. ⌜ r ≡ reported (runDown (length (now (out .entry))) (now (words .entry))) ⌝ }
+// Every packet of the words under a rule, until one stops the run.
+pub fn run_down(words: &[u32], out: &mut [u32], rule: Rule) -> Done
+    ensures report { λ r. ⌜ r ≡ reported (runDownBy rule (length (now (out .entry))) (now (words .entry))) ⌝ }
     ensures output { λ _. ⌜ now (out .exit)
-        ≡ atStart (runDown (length (now (out .entry))) (now (words .entry)) .sends) (now (out .entry)) ⌝ }
+        ≡ atStart (runDownBy rule (length (now (out .entry))) (now (words .entry)) .sends) (now (out .entry)) ⌝ }
 {
     let mut read: usize = 0;
     let mut written: usize = 0;
     while read < words.len() {
-        let done = down(words, report(SENT, read, written), out);
+        let done = down(words, report(SENT, read, written), out, rule);
         if done.read == read {
             return report(done.answer, read, done.written);
         }

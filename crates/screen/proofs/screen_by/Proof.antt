@@ -18,4 +18,6 @@ screen-by-spec =
     (λ c κs. search needs)
     (λ c. simp (← c .finding3 .ensures, eq-eqb _ _ (c .before .if3 .taken), tests, c .before .before .if2 .left, ← c .before .before .before .is-reserved .ensures, ← c .before .before .before .before .message-type .ensures, ← c .before .before .before .before .before .word-at .ensures, c .before .before .before .before .before .before .if1 .left))
     (λ c κs. search needs) (λ c κs. search needs)
-    (λ c. simp (tests, ← c .check .ensures, ← c .before .word-at2 .ensures, c .before .before .if3 .left, c .before .before .before .if2 .left, ← c .before .before .before .before .is-reserved .ensures, ← c .before .before .before .before .before .message-type .ensures, ← c .before .before .before .before .before .before .word-at .ensures, c .before .before .before .before .before .before .before .if1 .left)))
+    (λ c. simp (tests, ← c .finding4 .ensures, c .before .if4 .taken, ← c .before .before .is-outside .ensures, ← c .before .before .before .before .before .before .before .word-at .ensures, c .before .before .before .if3 .left, c .before .before .before .before .if2 .left, ← c .before .before .before .before .before .is-reserved .ensures, ← c .before .before .before .before .before .before .message-type .ensures, ← c .before .before .before .before .before .before .before .word-at .ensures, c .before .before .before .before .before .before .before .before .if1 .left))
+    (λ c κs. search needs) (λ c κs. search needs)
+    (λ c. simp (tests, ← c .check .ensures, ← c .before .word-at2 .ensures, c .before .before .if4 .left, ← c .before .before .before .is-outside .ensures, c .before .before .before .before .if3 .left, c .before .before .before .before .before .if2 .left, ← c .before .before .before .before .before .before .is-reserved .ensures, ← c .before .before .before .before .before .before .before .message-type .ensures, ← c .before .before .before .before .before .before .before .before .word-at .ensures, c .before .before .before .before .before .before .before .before .before .if1 .left)))

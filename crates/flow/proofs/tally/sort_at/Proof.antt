@@ -10,9 +10,9 @@ use Rattle.flow.proofs.tally.sort_at.Tie as tie
 
 returns : tie.Need-returns
 returns c =
-    let s = c .before .before .before .before .before .before .before .before in
-    down-sort (s .args .down) (now (s .args .words)) (s .args .at) (c .before .before .before .down .result) (c .before .before .before .before .before .before .if1 .taken)
-    (rw (c .before .before .before .before .before .report .ensures) at (c .before .before .before .down .ensures .0))
+    let s = c .before .before .before .before .before .before .before .before .before in
+    down-sort (s .args .down) (now (s .args .words)) (s .args .at) (c .before .before .before .down .result) (c .before .before .before .before .before .before .before .if1 .taken)
+    (rw (c .before .before .before .before .open-rule .ensures, c .before .before .before .before .before .before .report .ensures) at (c .before .before .before .down .ensures .0))
 
 returns-2 : tie.Need-returns-2
 returns-2 c =
@@ -22,7 +22,7 @@ pub sort-at-spec : {M : Type 1} → statement M
 sort-at-spec =
     tie.close
     (tie.spec
-    (λ c κs. search needs) (λ c. search needs) (λ c κs. search needs) (λ c. search needs) (λ c. search needs)
+    (λ c κs. search needs) (λ c. search needs) (λ c κs. search needs) (λ c κs. search needs) (λ c. search needs) (λ c. search needs)
     (λ c. search needs) (λ c κs. search needs) (λ c κs. search needs) (λ c. search needs) (λ c. search needs)
     (λ c. search needs)
     returns

@@ -18,20 +18,22 @@ voice-down-requires c κs =
 
 onward-requires : tie.Need-onward-requires
 onward-requires c κs =
-    let a = c .before .before .before .before .before .before .before .before .args in
-    rw (c .before .before .before .before .before .packet-at .ensures) (next-few (drop (a .past .read) (now (a .words))), next-fits (now (a .words)) (a .past .read) (omega arith) (omega arith))
+    let a = c .before .before .before .before .before .before .before .args in
+    rw (c .before .before .before .before .packet-at .ensures) (next-few (drop (a .past .read) (now (a .words))), next-fits (now (a .words)) (a .past .read) (omega arith) (omega arith))
 
 returns : tie.Need-returns
 returns c =
+    let a = c .before .before .before .before .before .before .before .before .before .before .args in
     let p = c .before .before .before .before .before .before .before .packet-at in
     let e = sym (ap messageType (c .before .before .before .before .before .before .word-at .ensures)) ∙ sym (c .before .before .before .before .before .message-type .ensures) ∙ c .before .before .before .before .if1 .taken in
-    rw (← p .ensures, down-voice (now (p .result)) e) (c .before .before .voice-down .ensures)
+    rw (← p .ensures, down-voice (a .rule) (now (p .result)) e) (c .before .before .voice-down .ensures)
 
 returns-2 : tie.Need-returns-2
 returns-2 c =
-    let p = c .before .before .before .before .before .before .before .before .packet-at in
-    let e : messageType (first (now (p .result))) ≡ voice2 → ⊥ = λ z. c .before .before .before .before .before .if1 .left (c .before .before .before .before .before .before .message-type .ensures ∙ ap messageType (c .before .before .before .before .before .before .before .word-at .ensures) ∙ z) in
-    rw (← p .ensures, down-other (now (p .result)) e) (rw (c .before .before .before .open-rule .ensures) at (c .before .before .onward .ensures))
+    let a = c .before .before .before .before .before .before .before .before .before .before .args in
+    let p = c .before .before .before .before .before .before .before .packet-at in
+    let e : messageType (first (now (p .result))) ≡ voice2 → ⊥ = λ z. c .before .before .before .before .if1 .left (c .before .before .before .before .before .message-type .ensures ∙ ap messageType (c .before .before .before .before .before .before .word-at .ensures) ∙ z) in
+    rw (← p .ensures, down-other (a .rule) (now (p .result)) e) (c .before .before .onward .ensures)
 
 pub down-spec : {M : Type 1} → statement M
 down-spec =
@@ -39,7 +41,6 @@ down-spec =
     (tie.spec
     (λ c κs. search needs) (λ c κs. search needs) (λ c κs. search needs)
     voice-down-requires
-    (λ c κs. search needs)
     onward-requires
     (λ c. search needs)
     returns
