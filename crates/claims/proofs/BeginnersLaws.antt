@@ -13,7 +13,7 @@ use Rattle.ground.specs.Lists.{All}
 use Rattle.ground.proofs.Cases.{by-bool, choose, not-both}
 use Rattle.ump.specs.declared.Group.{Group}
 use Rattle.ump.specs.declared.Channel.{Channel}
-use Rattle.ump.specs.Word.{channelOf, groupOf, data1, messageType, status, voice1, voice2}
+use Rattle.ump.specs.Word.{channelOf, groupOf, messageType, placeOf, status, voice1, voice2}
 use Rattle.ump.specs.Packet.{cut, first, packet}
 use Rattle.stream.specs.Call.{Call, leftOf, refused, sentOf, stopped, went}
 use Rattle.stream.proofs.CallLaws.{refusal}
@@ -155,10 +155,12 @@ plays-blank r (pitchBend1 v) h b = b
 abbrev BlankAt : ℕ → Record → Type 0
 BlankAt k r = Blank (r .memory)
 
-kept : (k : ℕ) (r : Record) (p : List ℕ) → screenBy beginnersRule voice2 p .answer ≡ goesOn
-    → eqb (messageType (first p)) voice1 ≡ true
-    → sound r ≡ true → BlankAt k r → BlankAt k (recordAfter r (read1 (first p)))
-kept k r p f v ok b =
+kept : (k : ℕ) (r : Record) (s : List ℕ) → k ≡ placeOf (first s)
+    → screenBy beginnersRule voice2 (packet s) .answer ≡ goesOn
+    → eqb (messageType (first (packet s))) voice1 ≡ true
+    → sound r ≡ true → BlankAt k r → BlankAt k (recordAfter r (read1 (first (packet s))))
+kept k r s _ f v ok b =
+    let p = packet s in
     by-bool (forBeginners (first p))
     (λ q. plays-blank (r .memory) (read1 (first p)) (plays (first p) q (eqb-true (messageType (first p)) voice1 v)) b)
     (λ n. absurd (not-for-room voice2 p n f))

@@ -9,8 +9,8 @@ use lib.ListN.{getD, length, length-set, set}
 use lib.Seq.{getD-set-other, getD-set-same, set-getD}
 use borrow.Author.Tests.{eqb-false}
 use Rattle.ground.proofs.Cases.{by-bool, choose}
-use Rattle.ump.specs.Word.{messageType, voice1, voice2}
-use Rattle.ump.specs.Packet.{first}
+use Rattle.ump.specs.Word.{messageType, placeOf, voice1, voice2}
+use Rattle.ump.specs.Packet.{first, packet}
 use Rattle.stream.specs.Answers.{answered, noTable, notSound, outOfRange}
 use Rattle.memory.specs.declared.Memory.{Memory}
 use Rattle.memory.specs.Memory.{addressOpen, dataHighPresent, marked, sound, withDataHigh}
@@ -48,10 +48,10 @@ module _ (t : List Record) where
   abbrev Same : ℕ → Record → Type 0
   Same k r = r .memory .coarse ≡ markOn t k
 
-  same-after : (k : ℕ) (r : Record) (p : List ℕ) → screen voice2 p .answer ≡ goesOn
-      → eqb (messageType (first p)) voice1 ≡ true
-      → sound (r .memory) ≡ true → Same k r → Same k (recordAfter r (read1 (first p)))
-  same-after k r p _ _ _ h = lift-marks (r .memory) (read1 (first p)) ∙ h
+  same-after : (k : ℕ) (r : Record) (s : List ℕ) → k ≡ placeOf (first s) → screen voice2 (packet s) .answer ≡ goesOn
+      → eqb (messageType (first (packet s))) voice1 ≡ true
+      → sound (r .memory) ≡ true → Same k r → Same k (recordAfter r (read1 (first (packet s))))
+  same-after k r s _ _ _ _ h = lift-marks (r .memory) (read1 (first (packet s))) ∙ h
 
 -- the setting call, by whether a record is named and whether it is sound
 module _ (t : List Record) (group channel : ℕ) where

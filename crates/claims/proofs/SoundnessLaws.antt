@@ -6,8 +6,8 @@ use mathlib.Core.List.{List}
 use lib.Dec.{eqb}
 use borrow.Author.Tests.{eqb-false}
 use Rattle.ground.proofs.Cases.{not-both}
-use Rattle.ump.specs.Word.{messageType, voice1, voice2}
-use Rattle.ump.specs.Packet.{cut, first}
+use Rattle.ump.specs.Word.{messageType, placeOf, voice1, voice2}
+use Rattle.ump.specs.Packet.{cut, first, packet}
 use Rattle.stream.specs.Answers.{cutPacket, noRoom, noTable, notSound, sent}
 use Rattle.stream.specs.Call.{Call, stopped, went}
 use Rattle.screen.specs.Screen.{goesOn, openRule, screen}
@@ -29,9 +29,10 @@ NotEight a = a ≡ notSound → ⊥
 unmet : (k : ℕ) (r : Record) → Sound k r → sound r ≡ false → NotEight notSound
 unmet k r ok n = not-both (sym n ∙ ok)
 
-stays : (k : ℕ) (r : Record) (p : List ℕ) → screen voice2 p .answer ≡ goesOn → eqb (messageType (first p)) voice1 ≡ true
-    → sound r ≡ true → Sound k r → Sound k (recordAfter r (read1 (first p)))
-stays k r p _ _ _ ok = lift-sound (r .memory) ok (read1 (first p)) (read1-fits (first p))
+stays : (k : ℕ) (r : Record) (s : List ℕ) → k ≡ placeOf (first s) → screen voice2 (packet s) .answer ≡ goesOn
+    → eqb (messageType (first (packet s))) voice1 ≡ true
+    → sound r ≡ true → Sound k r → Sound k (recordAfter r (read1 (first (packet s))))
+stays k r s _ _ _ _ ok = lift-sound (r .memory) ok (read1 (first (packet s))) (read1-fits (first (packet s)))
 
 soundly : (c : Call (ℕ × List Record)) → Keeps Sound NotEight c → Soundly c
 soundly (went a ws u) d = d

@@ -80,9 +80,9 @@ module _
     (nine : A noRoom)
     (ten : A noTable)
     (eight : (k : ℕ) (r : Record) → P k r → sound r ≡ false → A notSound)
-    (kept : (k : ℕ) (r : Record) (p : List ℕ) → screenBy rule voice2 p .answer ≡ goesOn
-    → eqb (messageType (first p)) voice1 ≡ true
-    → sound r ≡ true → P k r → P k (recordAfter r (read1 (first p))))
+    (kept : (k : ℕ) (r : Record) (s : List ℕ) → k ≡ placeOf (first s) → screenBy rule voice2 (packet s) .answer ≡ goesOn
+    → eqb (messageType (first (packet s))) voice1 ≡ true
+    → sound r ≡ true → P k r → P k (recordAfter r (read1 (first (packet s)))))
   where
     abbrev step : List Record → List ℕ → Call (List Record)
     step = tableBy rule false
@@ -93,7 +93,7 @@ module _
         within-does step (Each P) A nine u s
         (table-does (Each P) A rule t s ten
         (up-does (λ (x : Record). Each P (set t k x)) A rule r (packet s) (keep r (h k)) three (eight k r (h k))
-        (λ f v ok. keep _ (kept k r (packet s) f v ok (h k)))))
+        (λ f v ok. keep _ (kept k r s refl f v ok (h k)))))
       where
         t : List Record
         t = u .1
