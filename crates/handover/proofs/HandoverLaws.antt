@@ -16,7 +16,7 @@ use Rattle.stream.specs.Answers.{answered, noTable, outOfRange}
 use Rattle.channel.specs.declared.Record.{Record}
 use Rattle.channel.specs.Record.{empty, wholeTable}
 use Rattle.handover.specs.Handover.{canBeGiven, changesHands, channels, emptied, firstOf, giveAnswer, groupOwner, ownerOf, ownersAfter, tableGiven}
-use Rattle.handover.proofs.Emptying.{emptied-inside, emptied-outside, length-emptied}
+use Rattle.handover.proofs.Emptying.{emptied-inside, emptied-none, emptied-outside, length-emptied}
 
 taken : (b c : Bool) → cond b (cond c answered outOfRange) noTable ≡ answered → (b ≡ true) × (c ≡ true)
 taken true true e = (refl, refl)
@@ -108,6 +108,11 @@ module _ (owners : List ℕ) (t : List Record) (group host : ℕ) where
 
   abbrev after : List Record
   after = tableGiven owners t group host
+
+  -- it is the table with the row emptied that `give` tells of
+  pub row-emptied : emptied t (firstOf group) (cond hands channels 0) ≡ after
+  unfolding tableGiven
+  row-emptied = by-bool hands (λ e. rw e refl) (λ e. rw e (emptied-none t (firstOf group)))
 
   pub table-length : length after ≡ length t
   unfolding tableGiven
