@@ -14,7 +14,8 @@ use Rattle.ump.specs.Word.{groupOf, messageType}
 use Rattle.keys.specs.Keys.{bit, withBit}
 use Rattle.keys.proofs.Bit.{at-zero, with-other, with-same}
 use Rattle.screen.specs.Screen.{groupBit, grouped, outside}
-use Rattle.hosts.specs.Hosts.{groupsBelow, hostRule, isHost, owns, withGroup}
+use Rattle.handover.specs.Handover.{isHost}
+use Rattle.hosts.specs.Hosts.{groupsBelow, hostRule, owns, withGroup}
 
 -- past the end of the list nobody owns a group
 pub nobody : (host : ℕ) → (isHost host && eqb 0 host) ≡ false

@@ -1,6 +1,6 @@
 -- Two hosts on one box (RULES 2.6; 02 M-107): who owns a group, the rule of a host, and its calls.
 use Prim.Native.Nat.{ℕ, zero, suc}
-use mathlib.Core.Bool.{Bool, true, false, cond, not, _&&_, _||_}
+use mathlib.Core.Bool.{Bool, false, cond, not, _&&_}
 use mathlib.Core.List.{List}
 use lib.Dec.{eqb}
 use lib.ListN.{getD, length}
@@ -18,12 +18,9 @@ use Rattle.table.specs.Table.{oneBy, runBy, tableBy}
 use Rattle.question.specs.declared.KeysDown.{KeysDown}
 use Rattle.question.specs.Question.{keysTold, placeAsked, showingNone}
 use Rattle.mark.specs.Mark.{markAnswer, named, tableMarked, unnamed}
+use Rattle.handover.specs.Handover.{isHost}
 
--- a host is 1 or 2; whoever else calls owns nothing
-abbrev pub isHost : ℕ → Bool
-isHost h = eqb h 1 || eqb h 2
-
--- A host owns a group if the list has its number there. Any other number is nobody, and past the list's end a group
+-- A host owns a group if the list has its number there; whoever is no host owns nothing. Past the list's end a group
 -- belongs to nobody.
 abbrev pub owns : ℕ → List ℕ → ℕ → Bool
 owns host owners g = isHost host && eqb (getD owners g 0) host

@@ -14,13 +14,14 @@ use stream::NOT_YOURS;
 use table::Job;
 ghost use mathlib.Core.Path.{_≡_};
 ghost use Prim.Native.Nat.{_<_};
+ghost use Rattle.handover.specs.Handover.{isHost};
 ghost use Rattle.hosts.specs.Hosts;
 
 // How many groups there are.
 const GROUPS: u8 = 16;
 
 fn is_host(host: u8) -> bool
-    ensures { λ r. ⌜ r ≡ Hosts.isHost host ⌝ }
+    ensures { λ r. ⌜ r ≡ isHost host ⌝ }
 {
     (host == 1) | (host == 2)
 }

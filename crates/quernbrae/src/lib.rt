@@ -18,6 +18,7 @@ ghost use Rattle.question.specs.Question.{keysAsked};
 ghost use Rattle.mark.specs.Mark.{markAnswer, tableMarked};
 ghost use Rattle.hosts.specs.Hosts.{hostKeysAsked, hostMarkAnswer, hostOneDown, hostOneUp, hostRunDown, hostRunUp};
 ghost use Rattle.hosts.specs.Hosts.{hostTableMarked};
+ghost use Rattle.handover.specs.Handover.{giveAnswer, ownersAfter, tableGiven};
 ghost use Rattle.lesson.specs.Lesson.{lesson, lessonReport};
 ghost use Rattle.voice.specs.Packet.{oneDown, runDown};
 ghost use Rattle.table.specs.Table.{beginnersOneUp, beginnersRunUp, oneUp, runUp, tableAfter};
@@ -277,4 +278,23 @@ pub extern "C" fn quernbrae_host_mark_coarse(
     } else {
         hosts::unmarked(n, group, channel)
     }
+}
+
+// A group is given to host 1 or 2, or to nobody by 0. Where it changes hands its records are emptied.
+#[no_mangle]
+pub extern "C" fn quernbrae_give_group(
+    owners: &mut [u8],
+    table: &mut [Record],
+    group: u8,
+    host: u8,
+) -> u32
+    ensures answer { λ r. ⌜ r ≡ giveAnswer (now (owners .entry)) (length (now (table .entry))) group host ⌝ }
+    ensures owners { λ _. ⌜ now (owners .exit)
+        ≡ ownersAfter (now (owners .entry)) (length (now (table .entry))) group host ⌝ }
+    ensures table { λ _. ⌜ now (table .exit)
+        ≡ tableGiven (now (owners .entry)) (now (table .entry)) group host ⌝ }
+{
+    let given = handover::give(owners, table.len(), group, host);
+    handover::empty_from(table, given.from, given.count);
+    given.answer
 }

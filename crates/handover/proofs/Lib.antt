@@ -1,0 +1,4 @@
+pub mod HandoverLaws
+pub mod Emptying
+pub mod Values
+pub mod Calls
