@@ -14,3 +14,5 @@ pub mod MarkLaws
 pub mod SoundnessLaws
 pub mod LessonLaws
 pub mod BeginnersLaws
+pub mod ApartLaws
+pub mod HostLaws

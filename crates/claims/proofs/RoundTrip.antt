@@ -20,6 +20,7 @@ use Rattle.stream.specs.Answers.{sent, stopsRun}
 use Rattle.stream.specs.Call.{Call, leftOf, refused, sentOf, stopped, went, within}
 use Rattle.stream.specs.Run.{run}
 use Rattle.stream.proofs.RunLaws.{roomed-sends}
+use Rattle.screen.specs.declared.Rule.{Rule}
 use Rattle.screen.specs.Screen.{admitted, goesOn, openRule, outside, screen, screenBy, screened}
 use Rattle.screen.proofs.ScreenLaws.{passed}
 use Rattle.memory.specs.declared.Memory.{Memory}
@@ -36,7 +37,8 @@ use Rattle.voice.specs.Packet.{callBy, callDown, callDownBy, packetDownBy, pack
 use Rattle.table.specs.Table.{runUp, stored, tableBy, tableUp}
 use Rattle.table.proofs.KeptLaws.{at-set, fresh-unmarked, marked-sound}
 use Rattle.claims.specs.Marks.{markOn}
-use Rattle.claims.specs.RoundTrip.{Blank, Gated, RoundTrip, RoundTripGated, StillPasses}
+use Rattle.claims.specs.RoundTrip.{Blank, Gated, GatedDown, RoundTrip, RoundTripFenced, RoundTripGated}
+use Rattle.claims.specs.RoundTrip.{StillPasses}
 use Rattle.claims.proofs.RoundLaws.{Again, Came, Fit, Undone, came-none, came-packet, nothing}
 use Rattle.claims.proofs.RoundLaws.{packet as a-packet, round}
 use Rattle.claims.proofs.StepLaws.{has-words, table-cases}
@@ -120,14 +122,15 @@ down-onward p w f e =
     let x = passed openRule voice2 p f in
     rw (packet-whole p w, x .some, x .free, e, x .status, x .data-fields, x .right)
 
--- the packets that up can send with such marks, of which all that comes down passes
-data Emit (passes : List ℕ → Bool) (marks : ℕ → ℕ) : List ℕ → Type 0 where
+-- the packets that up can send with such marks, which pass going down, and of which all that comes down passes
+data Emit (passes : List ℕ → Bool) (rule : Rule) (marks : ℕ → ℕ) : List ℕ → Type 0 where
   onward : {p : List ℕ} → Whole p → screen voice2 p .answer ≡ goesOn → eqb (messageType (first p)) voice1 ≡ false
-      → passes p ≡ true
-      → Emit passes marks p
+      → passes p ≡ true → callDownBy rule tt p ≡ callDown tt p
+      → Emit passes rule marks p
   spoken : (g : Group) (c : Channel) (m : Midi2) → g .0 < 16 → c .0 < 16
       → Upward (not (eqb (marks (recordNumber g c)) unmarked)) m
-      → All (λ (x : Midi1). passes (write1 g c x ∷ []) ≡ true) (lower m) → Emit passes marks (write2 g c m)
+      → All (λ (x : Midi1). passes (write1 g c x ∷ []) ≡ true) (lower m)
+      → callDownBy rule tt (write2 g c m) ≡ callDown tt (write2 g c m) → Emit passes rule marks (write2 g c m)
 
 -- the marks of a table, place by place; a whole table with such marks, and one to start from
 abbrev Carries : (ℕ → ℕ) → List Record → Type 0
@@ -147,6 +150,7 @@ module _
     (passes : List ℕ → Bool)
     (up : List Record → List ℕ → Call (List Record))
     (gate : Gated passes up)
+    (rule : Rule)
     (marks : ℕ → ℕ)
   where
     -- messages of one channel in a row, that all pass
@@ -197,21 +201,21 @@ module _
             (call (some x) e) (omega arith) ih
 
     -- such a packet goes down, and what comes up of it again is the packet
-    undone : (t : List Record) (u : Unit {0}) (p : List ℕ) → Start marks t → Emit passes marks p
-        → Undone up callDown (Start marks) t u p
+    undone : (t : List Record) (u : Unit {0}) (p : List ℕ) → Start marks t → Emit passes rule marks p
+        → Undone up (callDownBy rule) (Start marks) t u p
     unfolding words
-    undone t u _ (y, carries) (onward {p} whole f e q) =
+    undone t u _ (y, carries) (onward {p} whole f e q same-down) =
         let call = gate .as-before t p (y .whole) (rw (packet-whole p whole) q) ∙ up-onward t p (y .whole) whole f e in
         record {
           answer = 0;
           words = p;
           left = tt;
-          goes = down-onward p whole f e;
+          goes = same-down ∙ down-onward p whole f e;
           end = t;
           good = (y, carries);
           back = rw append-nil at (came-packet up t t t p p [] [] 0 whole call (omega arith) (came-none up t));
         }
-    undone t u _ (y, carries) (spoken g c m hg hc h q) =
+    undone t u _ (y, carries) (spoken g c m hg hc h q same-down) =
         let k = recordNumber g c in
         let r = getD t k empty in
         let after = recordAll r (lower m) in
@@ -223,7 +227,7 @@ module _
           answer = 0;
           words = map (write1 g c) (lower m);
           left = tt;
-          goes = down-spoken g c hg hc (r .memory) m (y .bankless k) own;
+          goes = same-down ∙ down-spoken g c hg hc (r .memory) m (y .bankless k) own;
           end = set t k after;
           good = (
             record {
@@ -241,9 +245,10 @@ module _
         }
 
     -- each call sends nothing or one such packet, and keeps the table whole and its marks
-    sends : StillPasses passes → (t : List Record) (s : List ℕ) → Full marks t → Fit (Full marks) (Emit passes marks) (up t s)
+    sends : StillPasses passes → GatedDown passes rule → (t : List Record) (s : List ℕ) → Full marks t
+        → Fit (Full marks) (Emit passes rule marks) (up t s)
     unfolding refused
-    sends still t s full =
+    sends still falls t s full =
         by-bool (passes p) (λ q. rw (gate .as-before t s l q) (passing q)) (λ q. quietly (up t s) (gate .held t s l q))
       where
         l : length t ≡ wholeTable
@@ -261,7 +266,7 @@ module _
         r : Record
         r = getD t k empty
 
-        quietly : (c : Call (List Record)) → (sentOf c ≡ []) × (leftOf t c ≡ t) → Fit (Full marks) (Emit passes marks) c
+        quietly : (c : Call (List Record)) → (sentOf c ≡ []) × (leftOf t c ≡ t) → Fit (Full marks) (Emit passes rule marks) c
         quietly (went a ws u) e = rw (e .0, e .1) (nothing, full)
         quietly (stopped a) e = tt
 
@@ -272,15 +277,15 @@ module _
               (lift-marks (r .memory) (read1 w) ∙ full .1 k) (full .1),
         )
 
-        passing : passes p ≡ true → Fit (Full marks) (Emit passes marks) (tableUp t s)
+        passing : passes p ≡ true → Fit (Full marks) (Emit passes rule marks) (tableUp t s)
         passing q =
-            table-cases (Fit (Full marks) (Emit passes marks)) openRule t s (λ _. tt) (λ _. record {
+            table-cases (Fit (Full marks) (Emit passes rule marks)) openRule t s (λ _. tt) (λ _. record {
               refuses = λ _.
-                  choose (Fit (Full marks) (Emit passes marks)) (stopsRun (screen voice2 p .answer)) (λ _. tt)
+                  choose (Fit (Full marks) (Emit passes rule marks)) (stopsRun (screen voice2 p .answer)) (λ _. tt)
                   (λ _. (nothing, full));
               onward = λ f n.
                   let whole = standing s (has-words openRule voice2 p f) .0 in
-                  (a-packet whole (onward whole f n q), full);
+                  (a-packet whole (onward whole f n q (falls .onward p q)), full);
               unsound = λ _ _ _. tt;
               takes = λ _ _ _ _. (nothing, after);
               sends = λ f e h m says.
@@ -289,7 +294,8 @@ module _
                   let y = rw (full .1 k, own) at x in (
                     a-packet (whole2 (groupOf w) (channelOf w) (omega arith) (omega arith) m x)
                         (spoken (groupOf w) (channelOf w) m (omega arith) (omega arith) y
-                        (still p r m q (eqb-true (messageType w) voice1 e) h says)),
+                        (still p r m q (eqb-true (messageType w) voice1 e) h says)
+                        (falls .spoken p r m q (eqb-true (messageType w) voice1 e) h says)),
                     after,
                   );
             })
@@ -301,26 +307,38 @@ marked-blank t m =
     record { whole = m .whole; sounds = marked-sound t m; bankless = λ k. rw (m .each k) }
 
 -- with unlimited room; and no packet of the second pass up is refused
+returns-by : (passes : List ℕ → Bool) (up : List Record → List ℕ → Call (List Record)) (rule : Rule) → Gated passes up
+    → StillPasses passes → GatedDown passes rule
+    → (t : List Record) → Blank t → (s : List ℕ) → Again up (callDownBy rule) t tt (run up t (cut s) .sends)
+returns-by passes up rule gate still falls t y s =
+    let marks = markOn t in
+    round up (callDownBy rule) (Full marks) (Start marks) (Emit passes rule marks) (sends passes up gate rule marks still falls)
+    (undone passes up gate rule marks) (cut s) t t tt (y .whole, λ k. refl) (y, λ k. refl)
+
+-- without a rule going down everything falls
+falls-free : (passes : List ℕ → Bool) → GatedDown passes openRule
+falls-free passes = record { onward = λ p q. refl; spoken = λ p r x q e h says. refl }
+
 pub returns : (passes : List ℕ → Bool) (up : List Record → List ℕ → Call (List Record)) → Gated passes up
     → StillPasses passes
     → (t : List Record) → Blank t → (s : List ℕ) → Again up callDown t tt (run up t (cut s) .sends)
-returns passes up gate still t y s =
-    let marks = markOn t in
-    round up callDown (Full marks) (Start marks) (Emit passes marks) (sends passes up gate marks still)
-    (undone passes up gate marks) (cut s) t t tt (y .whole, λ k. refl) (y, λ k. refl)
+returns passes up gate still = returns-by passes up openRule gate still (falls-free passes)
 
-pub proved-round-trip-gated : RoundTripGated
+pub proved-round-trip-fenced : RoundTripFenced
 unfolding runDownBy
-proved-round-trip-gated passes up gate still t y s a b c =
+proved-round-trip-fenced passes up rule gate still falls t y s a b c =
     rw (eq-eqb (length t) wholeTable (y .whole)) (λ hx hy hz.
     let u = run (within up) (a, t) (cut s) in
-    let d = run (within callDown) (b, tt) (cut (u .sends)) in
+    let d = run (within (callDownBy rule)) (b, tt) (cut (u .sends)) in
     rw (
       roomed-sends up (cut (d .sends)) t c hz,
-      roomed-sends callDown (cut (u .sends)) tt b hy,
+      roomed-sends (callDownBy rule) (cut (u .sends)) tt b hy,
       roomed-sends up (cut s) t a hx,
     )
-    (returns passes up gate still t y s .0))
+    (returns-by passes up rule gate still falls t y s .0))
+
+pub proved-round-trip-gated : RoundTripGated
+proved-round-trip-gated passes up gate still = proved-round-trip-fenced passes up openRule gate still (falls-free passes)
 
 -- the rule that lets all pass
 pub all-pass : List ℕ → Bool

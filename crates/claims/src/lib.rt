@@ -9,8 +9,9 @@ ghost use Rattle.claims.specs.Picture.{Picture};
 ghost use Rattle.claims.specs.Places.{Places};
 ghost use Rattle.claims.specs.Refusals.{Refusals};
 ghost use Rattle.claims.specs.Room.{Room};
-ghost use Rattle.claims.specs.RoundTrip.{RoundTrip, RoundTripGated};
+ghost use Rattle.claims.specs.RoundTrip.{RoundTrip, RoundTripFenced, RoundTripGated};
 ghost use Rattle.claims.specs.Soundness.{Soundness};
+ghost use Rattle.claims.specs.TwoHosts.{TwoHosts};
 
 // Demand 1: a refusal only in its case, in the order of the list.
 pub fn refusals()
@@ -30,6 +31,11 @@ pub fn packet_by_packet()
 // Demand 3: up, down and up again sends the same words, from any table in which no bank waits.
 pub fn round_trip()
     ensures { λ _. ⌜ RoundTrip ⌝ }
+{}
+
+// Demand 3 with a rule about which packets may pass, up and down.
+pub fn round_trip_fenced()
+    ensures { λ _. ⌜ RoundTripFenced ⌝ }
 {}
 
 // Demand 3 with a rule about which packets may pass.
@@ -70,4 +76,9 @@ pub fn lessons()
 // The beginners' room: what is refused there, and that the rest goes up, comes down and goes up again.
 pub fn beginners()
     ensures { λ _. ⌜ Beginners ⌝ }
+{}
+
+// Two hosts on one box stand apart, and what holds of one host.
+pub fn two_hosts()
+    ensures { λ _. ⌜ TwoHosts ⌝ }
 {}
