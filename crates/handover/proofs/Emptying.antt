@@ -17,7 +17,7 @@ use Rattle.channel.specs.Record.{empty}
 use Rattle.handover.specs.Handover.{emptied}
 
 -- what stands for a missing element is read where it was stored, and past the end
-pub getD-set-missing : {A : Type 0} (l : List A) (i : ℕ) (d : A) → getD (set l i d) i d ≡ d
+getD-set-missing : {A : Type 0} (l : List A) (i : ℕ) (d : A) → getD (set l i d) i d ≡ d
 getD-set-missing [] i d = refl
 getD-set-missing (x ∷ xs) zero d = refl
 getD-set-missing (x ∷ xs) (suc i) d = getD-set-missing xs i d

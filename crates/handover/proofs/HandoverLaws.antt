@@ -15,7 +15,8 @@ use Rattle.ground.proofs.Cases.{by-bool, choose}
 use Rattle.stream.specs.Answers.{answered, noTable, outOfRange}
 use Rattle.channel.specs.declared.Record.{Record}
 use Rattle.channel.specs.Record.{empty, wholeTable}
-use Rattle.handover.specs.Handover.{canBeGiven, changesHands, channels, emptied, firstOf, giveAnswer, groupOwner, ownerOf, ownersAfter, tableGiven}
+use Rattle.handover.specs.Handover.{canBeGiven, changesHands, channels, emptied, firstOf, giveAnswer, groupOwner}
+use Rattle.handover.specs.Handover.{ownerOf, ownersAfter, tableGiven}
 use Rattle.handover.proofs.Emptying.{emptied-inside, emptied-none, emptied-outside, length-emptied}
 
 taken : (b c : Bool) → cond b (cond c answered outOfRange) noTable ≡ answered → (b ≡ true) × (c ≡ true)
@@ -75,26 +76,30 @@ module _ (owners : List ℕ) (n group host : ℕ) where
   -- and one that is given to the host that has it does not
   pub same-stays : groupOwner owners group ≡ host → moves ≡ false
   unfolding changesHands
-  same-stays e = rw (eq-eqb (groupOwner owners group) host e) (and-false (eqb (giveAnswer owners n group host) answered))
+  same-stays e =
+      rw (eq-eqb (groupOwner owners group) host e) (and-false (eqb (giveAnswer owners n group host) answered))
 
   -- the owner list keeps its length; the other groups' owners stay, and the group has the host it was given to
   pub owners-length : length (ownersAfter owners n group host) ≡ length owners
   unfolding ownersAfter
-  owners-length = choose (λ (l : List ℕ). length l ≡ length owners) moves (λ e. length-set owners group host) (λ e. refl)
+  owners-length =
+      choose (λ (l : List ℕ). length l ≡ length owners) moves (λ e. length-set owners group host) (λ e. refl)
 
   pub other-owner : (i : ℕ) → i ≢ group → getD (ownersAfter owners n group host) i 0 ≡ getD owners i 0
   unfolding ownersAfter
   other-owner i h =
-      choose (λ (l : List ℕ). getD l i 0 ≡ getD owners i 0) moves (λ e. getD-set-other owners group i host 0 h) (λ e. refl)
+      choose (λ (l : List ℕ). getD l i 0 ≡ getD owners i 0) moves
+      (λ e. getD-set-other owners group i host 0 h) (λ e. refl)
 
   pub new-owner : giveAnswer owners n group host ≡ answered → groupOwner (ownersAfter owners n group host) group ≡ host
   unfolding ownersAfter changesHands
   new-owner a =
       let b = eqb (giveAnswer owners n group host) answered in
       let c = eqb (groupOwner owners group) host in
+      let yes = eq-eqb (giveAnswer owners n group host) answered a in
       choose (λ (l : List ℕ). groupOwner l group ≡ host) moves
       (λ e. ap ownerOf (getD-set-same owners group host 0 (given-inside a)) ∙ own-owner host (given-host a))
-      (λ e. eqb-true (groupOwner owners group) host (unmoved b c (eq-eqb (giveAnswer owners n group host) answered a) e))
+      (λ e. eqb-true (groupOwner owners group) host (unmoved b c yes e))
 
   -- a refusal changes nothing
   pub refused-owners : giveAnswer owners n group host ≢ answered → ownersAfter owners n group host ≡ owners
@@ -116,7 +121,9 @@ module _ (owners : List ℕ) (t : List Record) (group host : ℕ) where
 
   pub table-length : length after ≡ length t
   unfolding tableGiven
-  table-length = choose (λ (l : List Record). length l ≡ length t) hands (λ e. length-emptied t (firstOf group) channels) (λ e. refl)
+  table-length =
+      choose (λ (l : List Record). length l ≡ length t) hands
+      (λ e. length-emptied t (firstOf group) channels) (λ e. refl)
 
   -- the records of a group that changes hands are empty, those of other groups stay
   pub given-empty : hands ≡ true → (k : ℕ) → k / 16 ≡ group → getD after k empty ≡ empty

@@ -33,5 +33,5 @@ returns-2 c =
 pub give-spec : {M : Type 1} → statement M
 give-spec =
     tie.close
-    (tie.spec (λ c κs. search needs) (λ c κs. search needs) (λ c κs. search needs) slice-write-owners (λ c. search needs)
-    returns (λ c. search needs) returns-2)
+    (tie.spec (λ c κs. search needs) (λ c κs. search needs) (λ c κs. search needs) slice-write-owners
+    (λ c. search needs) returns (λ c. search needs) returns-2)

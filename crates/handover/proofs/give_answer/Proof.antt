@@ -1,4 +1,4 @@
--- `handover::give_answer` meets its contract: the table is asked for first, then the group and the host. Assumes nothing.
+-- `handover::give_answer` meets its contract: the table is asked for first, then group and host. Assumes nothing.
 use Rattle.ground.proofs.Tests.{tests}
 use Rattle.handover.specs.Handover.{giveAnswer}
 use Rattle.handover.proofs.give_answer.Statement.{statement}
