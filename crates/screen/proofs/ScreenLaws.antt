@@ -8,7 +8,8 @@ use native.Mathlib.Omega.{arith}
 use lib.Dec.{eqb, leb}
 use lib.ListN.{length}
 use borrow.Author.Tests.{eqb-false, eqb-true, ne-eqb}
-use Rattle.ground.proofs.Cases.{choose, not-both}
+use Rattle.ground.proofs.Bools.{neither-left, neither-right}
+use Rattle.ground.proofs.Cases.{by-bool, choose, not-both}
 use Rattle.ump.specs.Word.{messageType, voice2}
 use Rattle.ump.specs.Packet.{first, second}
 use Rattle.ump.proofs.PacketLaws.{at-none}
@@ -18,15 +19,25 @@ use Rattle.stream.specs.Call.{Call, refused}
 use Rattle.stream.specs.Report.{placeTold}
 use Rattle.screen.specs.declared.Rule.{Rule}
 use Rattle.screen.specs.declared.Screened.{Screened}
-use Rattle.fields.specs.Check.{Field, badPlace, badPlaceOf, checkedFields, goodFields, goodStatus, voice1Fields}
-use Rattle.fields.specs.Check.{voice1Status}
+use Rattle.fields.specs.Check.{Field, badPlace, badPlaceOf, checkedFields, goodFields, goodStatus}
 use Rattle.screen.specs.Screen.{admitted, answering, beginnersRule, checkVoice1, checking, forBeginners}
-use Rattle.screen.specs.Screen.{fencedRule, goesOn, outside, reserved, screen, screenBy, screened}
+use Rattle.screen.specs.Screen.{fencedRule, goesOn, outside, reserved, ruled, screen, screenBy, screenVoice1, screened}
 
--- a MIDI 1.0 voice message, going up
-pub screen-voice1 : (rule : Rule) (w : ℕ) → messageType w ≡ 2 → screenBy rule voice2 (w ∷ []) ≡ checkVoice1 rule w
-unfolding screenBy goodStatus checkedFields checkVoice1
-screen-voice1 rule w h = rw h
+-- a rule that asks nothing is the open one
+unruled : (rule : Rule) (wrong : ℕ) (p : List ℕ) → ruled rule ≡ false → screenBy rule wrong p ≡ screen wrong p
+unfolding screenBy outside admitted
+unruled rule wrong p e =
+    rw (neither-left (rule .beginners) (rule .fenced) e, neither-right (rule .beginners) (rule .fenced) e)
+
+-- a MIDI 1.0 voice message, going up: by its one word, without a rule and with any
+pub screen-voice1 : (w : ℕ) → messageType w ≡ 2 → screen voice2 (w ∷ []) ≡ checkVoice1 w
+unfolding screenBy outside admitted goodStatus checkedFields checkVoice1
+screen-voice1 w h = rw h
+
+pub screen-word : (rule : Rule) (w : ℕ) → messageType w ≡ 2 → screenVoice1 rule w ≡ screenBy rule voice2 (w ∷ [])
+unfolding screenVoice1
+screen-word rule w h =
+    by-bool (ruled rule) (λ e. rw e) (λ e. rw e (sym (screen-voice1 w h) ∙ sym (unruled rule voice2 (w ∷ []) e)))
 
 -- what a good packet is answered with goes on, or is not for this room
 admits : (P : ℕ → Type 0) (rule : Rule) (w : ℕ) → P goesOn → P notForRoom → P (admitted rule w)
@@ -64,22 +75,11 @@ screen-place rule wrong p =
     screens (λ (s : Screened). s .place ≡ placeTold (s .answer) p) rule wrong p
     (λ _. refl) refl refl refl refl (λ _. refl) refl refl
 
-pub check-place : (rule : Rule) (w : ℕ) → messageType w ≡ 2
-    → checkVoice1 rule w .place ≡ placeTold (checkVoice1 rule w .answer) (w ∷ [])
-check-place rule w h = rw (screen-voice1 rule w h) at (screen-place rule voice2 (w ∷ []))
-
 -- only where no packet is whole does the screening stop a run
 pub cut-only : (rule : Rule) (wrong : ℕ) (p : List ℕ) → stopsRun (screenBy rule wrong p .answer) ≡ true → p ≡ []
 cut-only rule wrong p =
     screens (λ (s : Screened). stopsRun (s .answer) ≡ true → p ≡ []) rule wrong p
     (λ e _. e) not-both not-both not-both not-both (λ _. not-both) not-both not-both
-
-pub check-goes-on : (rule : Rule) (w : ℕ) → stopsRun (checkVoice1 rule w .answer) ≡ false
-unfolding checkVoice1
-check-goes-on rule w =
-    choose (λ (s : Screened). stopsRun (s .answer) ≡ false) (outside rule w) (λ _. refl)
-    (λ _. checks (λ (s : Screened). stopsRun (s .answer) ≡ false) (voice1Status w) (voice1Fields w) rule w
-    refl (λ _. refl) refl refl)
 
 -- a refusal is neither `sent` nor `takenIn`
 abbrev Above : Screened → Type 0
@@ -90,14 +90,6 @@ pub refused-above : (rule : Rule) (wrong : ℕ) (p : List ℕ) → (screenBy rul
 refused-above rule wrong p =
     screens Above rule wrong p (λ _ _. refl) (λ _. refl) (λ _. refl) (λ _. refl) (λ _. refl) (λ _ _. refl) (λ _. refl)
     (λ n. absurd (n refl))
-
-pub check-above : (rule : Rule) (w : ℕ) → (checkVoice1 rule w .answer ≡ goesOn → ⊥)
-    → leb (checkVoice1 rule w .answer) takenIn ≡ false
-unfolding checkVoice1
-check-above rule w =
-    choose Above (outside rule w) (λ _ _. refl)
-    (λ _. checks Above (voice1Status w) (voice1Fields w) rule w (λ _. refl) (λ _ _. refl) (λ _. refl)
-    (λ n. absurd (n refl)))
 
 -- a packet that goes on is no empty part, nothing is wrong with it, and it lies behind the fence
 pub record Passed (rule : Rule) (wrong : ℕ) (p : List ℕ) : Type 0 where

@@ -11,10 +11,8 @@ unfolding checkVoice1
 check-voice1-spec =
     tie.close
     (tie.spec
+    (λ c κs. search needs) (λ c κs. search needs) (λ c κs. search needs) (λ c κs. search needs)
     (λ c κs. search needs) (λ c κs. search needs)
-    (λ c. simp (tests, c .finding .ensures, sym (c .before .before .is-outside .ensures) ∙ c .before .if1 .taken))
-    (λ c κs. search needs) (λ c κs. search needs) (λ c κs. search needs) (λ c κs. search needs)
-    (λ c κs. search needs) (λ c κs. search needs) (λ c κs. search needs) (λ c κs. search needs)
-    (λ c. simp (tests, c .finding2 .ensures, c .before .admit .ensures, sym (c .before .before .before .is-good-voice1 .ensures) ∙ c .before .before .if3 .taken, c .before .before .before .before .if2 .taken, ← c .before .before .before .before .before .is-voice1-status .ensures, sym (c .before .before .before .before .before .before .before .is-outside .ensures) ∙ c .before .before .before .before .before .before .if1 .left))
-    (λ c. simp (tests, c .finding-place .ensures, c .before .admit2 .ensures, c .before .before .bad-place-voice1 .ensures, c .before .before .before .before .before .if2 .taken, ← c .before .before .before .before .before .before .is-voice1-status .ensures, sym (c .before .before .before .before .before .before .before .before .is-outside .ensures) ∙ c .before .before .before .before .before .before .before .if1 .left))
-    (λ c. simp (tests, ← c .finding3 .ensures, c .before .if2 .left, ← c .before .before .is-voice1-status .ensures, sym (c .before .before .before .before .is-outside .ensures) ∙ c .before .before .before .if1 .left)))
+    (λ c. simp (tests, c .finding .ensures, sym (c .before .before .is-good-voice1 .ensures) ∙ c .before .if2 .taken, c .before .before .before .if1 .taken, ← c .before .before .before .before .is-voice1-status .ensures))
+    (λ c. simp (tests, c .finding-place .ensures, c .before .bad-place-voice1 .ensures, c .before .before .before .before .if1 .taken, ← c .before .before .before .before .before .is-voice1-status .ensures))
+    (λ c. simp (tests, ← c .finding2 .ensures, c .before .if1 .left, ← c .before .before .is-voice1-status .ensures)))
