@@ -104,7 +104,7 @@ pub fn empty() -> Record {
 
 impl Record {
     /// Any keys may be down in a sound record. A coarse channel never keeps data high.
-    fn sound(&self) -> bool {
+    pub fn sound(&self) -> bool {
         let address = match (self.kind, self.coarse) {
             (NONE, FINE | COARSE) => {
                 [self.address_bank, self.address_index, self.data_high] == [MISSING; 3]
