@@ -1,6 +1,6 @@
 //! Holds single calls, runs, lessons, questions and marks of the product's static library to the
-//! reading, or times both.
-//! Usage: harness [CASES] with the number of random cases, which follow two million swept ones and
+//! reading, the beginners' room among them, or times both.
+//! Usage: harness [CASES] with the number of random cases, which follow millions of swept ones and
 //! come before half as many random lessons;
 //! or: harness time
 
@@ -18,7 +18,7 @@ use reading::{
     empty, keys_down, mark_coarse, size, Done, Keys, Record, COARSE, FINE, MISSING, OUTPUT_SHORT,
     SENT, TAKEN_IN,
 };
-use tally::{Asked, KeyVoices, Lessons, Marks, LONGEST_COARSE};
+use tally::{Asked, InTheRoom, KeyVoices, Lessons, Marks, LONGEST_COARSE};
 
 #[link(name = "quernbrae", kind = "static")]
 extern "C" {
@@ -32,6 +32,22 @@ extern "C" {
         out_len: usize,
     ) -> Done;
     fn quernbrae_run_up(
+        words: *const u32,
+        words_len: usize,
+        table: *mut Record,
+        table_len: usize,
+        out: *mut u32,
+        out_len: usize,
+    ) -> Done;
+    fn quernbrae_beginners_up(
+        words: *const u32,
+        words_len: usize,
+        table: *mut Record,
+        table_len: usize,
+        out: *mut u32,
+        out_len: usize,
+    ) -> Done;
+    fn quernbrae_beginners_run_up(
         words: *const u32,
         words_len: usize,
         table: *mut Record,
@@ -90,32 +106,40 @@ enum Function {
     RunUp,
     Down,
     RunDown,
+    BeginnersUp,
+    BeginnersRunUp,
     Lesson,
 }
 
-use Function::{Down, Lesson, RunDown, RunUp, Up};
+use Function::{BeginnersRunUp, BeginnersUp, Down, Lesson, RunDown, RunUp, Up};
 
-/// The functions, each with the answers that can occur in it.
-const FUNCTIONS: [(Function, &[usize]); 5] = [
+/// The functions, each with the answers that can occur in it. Lessons come last, since their random
+/// cases come by themselves.
+const FUNCTIONS: [(Function, &[usize]); 7] = [
     (Up, &[0, 1, 3, 4, 5, 6, 7, 8, 9, 10]),
     (RunUp, &[0, 3, 8, 9, 10]),
     (Down, &[0, 2, 3, 4, 5, 6, 7, 9]),
     (RunDown, &[0, 3, 9]),
+    (BeginnersUp, &[0, 3, 4, 5, 6, 7, 8, 9, 10, 23]),
+    (BeginnersRunUp, &[0, 3, 8, 9, 10]),
     (Lesson, &[0, 3, 9]),
 ];
 
+/// The answers of these functions are below this number.
+const ANSWERS: usize = 24;
+
 impl Function {
     fn goes_up(self) -> bool {
-        matches!(self, Up | RunUp | Lesson)
+        !matches!(self, Down | RunDown)
     }
 
     fn runs(self) -> bool {
-        matches!(self, RunUp | RunDown | Lesson)
+        !matches!(self, Up | Down | BeginnersUp)
     }
 
     /// A lesson's table is gone when it ends.
     fn can_be_taken_up_again(self) -> bool {
-        matches!(self, RunUp | RunDown)
+        matches!(self, RunUp | RunDown | BeginnersRunUp)
     }
 
     /// The types with checked fields that are not of the wrong protocol.
@@ -196,6 +220,8 @@ impl Lent {
             RunUp => reading::run_up(words, table, out),
             Down => reading::down(words, out),
             RunDown => reading::run_down(words, out),
+            BeginnersUp => reading::beginners_up(words, table, out),
+            BeginnersRunUp => reading::beginners_run_up(words, table, out),
             Lesson => reading::lesson(words, &self.coarse[..self.coarse_len], out),
         }
     }
@@ -225,6 +251,12 @@ impl Lent {
                 RunUp => quernbrae_run_up(words, words_len, table, table_len, out, room),
                 Down => quernbrae_down(words, words_len, out, room),
                 RunDown => quernbrae_run_down(words, words_len, out, room),
+                BeginnersUp => {
+                    quernbrae_beginners_up(words, words_len, table, table_len, out, room)
+                }
+                BeginnersRunUp => {
+                    quernbrae_beginners_run_up(words, words_len, table, table_len, out, room)
+                }
                 Lesson => quernbrae_lesson(words, words_len, coarse, coarse_len, out, room),
             }
         }
@@ -262,10 +294,11 @@ struct Comparison {
     reading: Lent,
     cases: usize,
     taken_up_again: usize,
-    seen: [[usize; 11]; FUNCTIONS.len()],
+    seen: [[usize; ANSWERS]; FUNCTIONS.len()],
     named: [Named; FUNCTIONS.len()],
     key_voices: KeyVoices,
     entries: Entries,
+    in_the_room: InTheRoom,
     asked: Asked,
     marks: Marks,
     lessons: Lessons,
@@ -280,10 +313,11 @@ impl Comparison {
             reading: Lent::new(),
             cases: 0,
             taken_up_again: 0,
-            seen: [[0; 11]; FUNCTIONS.len()],
+            seen: [[0; ANSWERS]; FUNCTIONS.len()],
             named: [(); FUNCTIONS.len()].map(|_| Named::new()),
             key_voices: KeyVoices::new(),
             entries: Entries::new(),
+            in_the_room: InTheRoom::new(),
             asked: Asked::new(),
             marks: Marks::new(),
             lessons: Lessons::new(),
@@ -311,6 +345,10 @@ impl Comparison {
             let rows = [self.case.table[own], self.reading.table[own]];
             self.key_voices.count(*word, expected.answer, rows);
             self.entries.count(*word, expected.answer, &rows[0]);
+        }
+        if let (BeginnersUp, Some(word)) = (function, self.case.words.first()) {
+            let own = &self.case.table[self.case.own()];
+            self.in_the_room.count(*word, expected.answer, own);
         }
         if function.can_be_taken_up_again() && expected.answer == reading::OUTPUT_SHORT {
             self.take_up_again(function);
@@ -527,6 +565,25 @@ impl Comparison {
                 let packet = bad_packet(&mut self.dice, bad);
                 self.single(Up, packet);
                 self.single(Down, packet);
+                self.single(BeginnersUp, packet);
+            }
+        }
+        self.case.table.fill(empty());
+    }
+
+    /// Every value of bits 31 to 16 of the first word and every pair of data bytes of every MIDI
+    /// 1.0 voice in the beginners' room, each time over another record of any sort.
+    fn every_packet_in_the_room(&mut self) {
+        for head in 0..0x1_0000 {
+            self.case.table.fill(any_record(&mut self.dice));
+            let mut packet = [0; 4].map(|_: u32| self.dice.word());
+            packet[0] = head << 16 | packet[0] & self.dice.pick(&[0x7F7F, 0xFFFF]);
+            self.single(BeginnersUp, packet);
+        }
+        for status in 0x8..0xF {
+            for data in 0..0x1_0000 {
+                self.case.table[0x84] = any_record(&mut self.dice);
+                self.single(BeginnersUp, [0x2804_0000 | status << 20 | data, 0, 0, 0]);
             }
         }
         self.case.table.fill(empty());
@@ -565,6 +622,8 @@ impl Comparison {
         for word in WORDS {
             self.single(Up, [word, 0, 0, 0]);
         }
+        let word = self.dice.pick(&WORDS);
+        self.single(BeginnersUp, [word, 0, 0, 0]);
         for coarse in [0, 1, self.dice.word() as u8] {
             self.case.table[255] = record;
             self.mark(256, [15, 15], coarse);
@@ -592,6 +651,7 @@ impl Comparison {
                 self.case.words_len = words.len();
                 self.case.set_room(room, 0xAAAA_AAAA);
                 self.compare(RunUp);
+                self.compare(BeginnersRunUp);
                 throw_coarse(&mut self.dice, &mut self.case);
                 self.lesson();
             }
@@ -948,7 +1008,7 @@ fn damage(dice: &mut Dice, words: &mut [u32]) {
 impl Comparison {
     fn random(&mut self, pool: &Pool) {
         let dice = &mut self.dice;
-        let (function, _) = FUNCTIONS[self.cases % 4];
+        let (function, _) = FUNCTIONS[self.cases % Lesson as usize];
         throw_words(dice, function, &mut self.case);
         throw_table(dice, pool, &mut self.case);
         self.throw_room();
@@ -1032,6 +1092,7 @@ impl Comparison {
         }
         complete &= self.key_voices.summary();
         complete &= self.entries.summary("Up", &[SENT, TAKEN_IN, OUTPUT_SHORT]);
+        complete &= self.in_the_room.summary();
         complete &= self.asked.summary() & self.marks.summary();
         complete &= self.lessons.summary();
         if !complete {
@@ -1093,6 +1154,7 @@ fn compare_all(random_cases: usize) {
     comparison.every_key_moved();
     comparison.every_midi_2_voice();
     comparison.every_bad_place();
+    comparison.every_packet_in_the_room();
     comparison.every_record();
     comparison.every_data_entry();
     comparison.every_channel_asked();

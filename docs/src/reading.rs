@@ -19,6 +19,9 @@ pub const NOT_SOUND: u32 = 8;
 pub const OUTPUT_SHORT: u32 = 9;
 pub const NOT_256_RECORDS: u32 = 10;
 
+// In the beginners' room there is one more, between 7 and 8.
+pub const NOT_FOR_THIS_ROOM: u32 = 23;
+
 // The question of the keys has these two and 10.
 pub const ANSWERED: u32 = 0;
 pub const ABOVE_15: u32 = 24;
@@ -45,6 +48,10 @@ pub const NO_KEY: u32 = 255;
 // later; a run's own began fresh, so it is sound, and what it knows of keys is never seen.
 const LENT: bool = true;
 const OWN: bool = false;
+
+// Which room a packet goes up in. In the beginners' room not everything that is good may pass.
+const BEGINNERS: bool = true;
+const ANY_ROOM: bool = false;
 
 /// What is remembered of one channel of one group between two packets.
 /// Bit k of the first 64 keys is 1 if key k is down, and bit k of the others if key k + 64 is.
@@ -97,7 +104,7 @@ pub fn empty() -> Record {
 
 impl Record {
     /// Any keys may be down in a sound record. A coarse channel never keeps data high.
-    fn sound(&self) -> bool {
+    pub fn sound(&self) -> bool {
         let address = match (self.kind, self.coarse) {
             (NONE, FINE | COARSE) => {
                 [self.address_bank, self.address_index, self.data_high] == [MISSING; 3]
@@ -296,24 +303,30 @@ fn low_byte(word: u32) -> u8 {
 
 /// Answers for every type but 2 and 4, on which both directions agree, and for whatever is cut.
 #[inline(always)]
-fn other_type(words: &[u32], out: &mut [u32]) -> Done {
+fn other_type<const ROOM: bool>(words: &[u32], out: &mut [u32]) -> Done {
     let size = words.first().map_or(0, |word| size(*word));
     match (size, words) {
-        (1, &[word, ..]) => unchanged(check_one_word(word), [word], out),
+        (1, &[word, ..]) => unchanged::<ROOM, 1>(check_one_word(word), [word], out),
         (2, &[first, second, ..]) => {
-            unchanged(check_two_words(first, second), [first, second], out)
+            unchanged::<ROOM, 2>(check_two_words(first, second), [first, second], out)
         }
         (3, [_, _, _, ..]) => refused(RESERVED_TYPE, 3),
         (4, &[first, second, third, fourth, ..]) => {
-            unchanged(check_four_words(first), [first, second, third, fourth], out)
+            let packet = [first, second, third, fourth];
+            unchanged::<ROOM, 4>(check_four_words(first), packet, out)
         }
         _ => stopped(CUT),
     }
 }
 
 #[inline(always)]
-fn unchanged<const COUNT: usize>(answer: u32, packet: [u32; COUNT], out: &mut [u32]) -> Done {
+fn unchanged<const ROOM: bool, const COUNT: usize>(
+    answer: u32,
+    packet: [u32; COUNT],
+    out: &mut [u32],
+) -> Done {
     match answer {
+        SENT if ROOM == BEGINNERS && !for_beginners(packet[0]) => refused(NOT_FOR_THIS_ROOM, COUNT),
         SENT => send(COUNT, packet, out),
         BAD_DATA => bad_data(&packet),
         _ => refused(answer, COUNT),
@@ -389,7 +402,7 @@ fn whole_table(table: &mut [Record]) -> Option<&mut [Record; 256]> {
 /// Treats the packet at the start of the words, going up.
 pub fn up(words: &[u32], table: &mut [Record], out: &mut [u32]) -> Done {
     match whole_table(table) {
-        Some(table) => up_packet::<LENT>(words, table, out),
+        Some(table) => up_packet::<LENT, ANY_ROOM>(words, table, out),
         None => stopped(NOT_256_RECORDS),
     }
 }
@@ -398,9 +411,37 @@ pub fn up(words: &[u32], table: &mut [Record], out: &mut [u32]) -> Done {
 pub fn run_up(words: &[u32], table: &mut [Record], out: &mut [u32]) -> Done {
     match whole_table(table) {
         Some(table) => run(words, out, |words, out| {
-            up_packet::<LENT>(words, table, out)
+            up_packet::<LENT, ANY_ROOM>(words, table, out)
         }),
         None => stopped(NOT_256_RECORDS),
+    }
+}
+
+/// Treats the packet at the start of the words, going up in the beginners' room.
+pub fn beginners_up(words: &[u32], table: &mut [Record], out: &mut [u32]) -> Done {
+    match whole_table(table) {
+        Some(table) => up_packet::<LENT, BEGINNERS>(words, table, out),
+        None => stopped(NOT_256_RECORDS),
+    }
+}
+
+/// Treats packet after packet, going up in the beginners' room.
+pub fn beginners_run_up(words: &[u32], table: &mut [Record], out: &mut [u32]) -> Done {
+    match whole_table(table) {
+        Some(table) => run(words, out, |words, out| {
+            up_packet::<LENT, BEGINNERS>(words, table, out)
+        }),
+        None => stopped(NOT_256_RECORDS),
+    }
+}
+
+/// Whether the good packet that begins with this word may pass in the beginners' room: utility
+/// messages, notes, the bend, and controllers from a short list.
+fn for_beginners(word: u32) -> bool {
+    match (word >> 28, word >> 20 & 15) {
+        (0, _) | (2, 0x8 | 0x9 | 0xE) => true,
+        (2, 0xB) => matches!(high_byte(word), 1 | 7 | 64 | 120 | 121 | 123),
+        _ => false,
     }
 }
 
@@ -408,7 +449,7 @@ pub fn run_up(words: &[u32], table: &mut [Record], out: &mut [u32]) -> Done {
 pub fn lesson(words: &[u32], coarse: &[u16], out: &mut [u32]) -> Done {
     let mut table = lesson_table(coarse);
     run(words, out, |words, out| {
-        up_packet::<OWN>(words, &mut table, out)
+        up_packet::<OWN, ANY_ROOM>(words, &mut table, out)
     })
 }
 
@@ -498,18 +539,26 @@ fn run(words: &[u32], out: &mut [u32], mut call: impl FnMut(&[u32], &mut [u32]) 
 }
 
 #[inline(always)]
-fn up_packet<const TABLE: bool>(words: &[u32], table: &mut [Record; 256], out: &mut [u32]) -> Done {
+fn up_packet<const TABLE: bool, const ROOM: bool>(
+    words: &[u32],
+    table: &mut [Record; 256],
+    out: &mut [u32],
+) -> Done {
     match *words {
         [word, ..] if word >> 28 == 2 => {
-            up_voice::<TABLE>(word, &mut table[record_number(word)], out)
+            up_voice::<TABLE, ROOM>(word, &mut table[record_number(word)], out)
         }
         [word, _, ..] if word >> 28 == 4 => refused(WRONG_PROTOCOL, 2),
-        _ => other_type(words, out),
+        _ => other_type::<ROOM>(words, out),
     }
 }
 
 #[inline(always)]
-fn up_voice<const TABLE: bool>(word: u32, record: &mut Record, out: &mut [u32]) -> Done {
+fn up_voice<const TABLE: bool, const ROOM: bool>(
+    word: u32,
+    record: &mut Record,
+    out: &mut [u32],
+) -> Done {
     let status = word >> 20 & 15;
     let data_bits = match status {
         0x8..=0xB | 0xE => 0x8080,
@@ -518,6 +567,9 @@ fn up_voice<const TABLE: bool>(word: u32, record: &mut Record, out: &mut [u32]) 
     };
     if word & data_bits != 0 {
         return bad_data(&[word]);
+    }
+    if ROOM == BEGINNERS && !for_beginners(word) {
+        return refused(NOT_FOR_THIS_ROOM, 1);
     }
     if TABLE == LENT && !record.sound() {
         return stopped(NOT_SOUND);
@@ -636,7 +688,7 @@ fn down_packet(words: &[u32], out: &mut [u32]) -> Done {
     match *words {
         [word, ..] if word >> 28 == 2 => refused(WRONG_PROTOCOL, 1),
         [first, second, ..] if first >> 28 == 4 => down_voice(first, second, out),
-        _ => other_type(words, out),
+        _ => other_type::<ANY_ROOM>(words, out),
     }
 }
 

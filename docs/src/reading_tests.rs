@@ -1,5 +1,8 @@
 use super::*;
 
+#[path = "beginners_tests.rs"]
+mod beginners;
+
 const UNTOUCHED: u32 = 0xAAAA_AAAA;
 
 fn fresh() -> [Record; 256] {

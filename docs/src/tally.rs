@@ -1,5 +1,5 @@
-//! What a comparison has seen of keys, of the question about them, of the marking call and of the
-//! marks of lessons.
+//! What a comparison has seen of keys, of the question about them, of the marking call, of the marks
+//! of lessons and of the beginners' room.
 
 use reading::{
     Keys, Record, ABOVE_15, ANSWERED, COARSE, FINE, MISSING, NOT_256_RECORDS, NOT_SOUND,
@@ -199,5 +199,70 @@ impl Lessons {
         println!("lessons by length of the list of marks: {lengths:?}");
         println!("lessons in which marks changed what was sent: {told_apart:?}");
         lengths[0] > 0 && told_apart[1..].iter().all(|count| *count > 0)
+    }
+}
+
+/// Packets as the beginners' room tells them apart: 0 to 15 are the message types, 16 to 31 the
+/// statuses of MIDI 1.0 voices, and from 32 on come the controllers.
+const ROOM_SORTS: usize = 32 + 256;
+
+fn room_sort(word: u32) -> usize {
+    match (word >> 28, word >> 20 & 15) {
+        (2, 0xB) => 32 + (word >> 8 & 255) as usize,
+        (2, status) => 16 + status as usize,
+        (message_type, _) => message_type as usize,
+    }
+}
+
+/// The controllers of the beginners' room.
+const ROOM_CONTROLLERS: [usize; 6] = [1, 7, 64, 120, 121, 123];
+
+/// How often single calls in the beginners' room gave each answer to each sort of packet, beside a
+/// record that was not sound and beside a sound one.
+pub struct InTheRoom([[[usize; 24]; 2]; ROOM_SORTS]);
+
+impl InTheRoom {
+    pub fn new() -> InTheRoom {
+        InTheRoom([[[0; 24]; 2]; ROOM_SORTS])
+    }
+
+    /// Counts a call whose first packet begins with this word, with its record before it.
+    pub fn count(&mut self, word: u32, answer: u32, before: &Record) {
+        self.0[room_sort(word)][usize::from(before.sound())][answer as usize] += 1;
+    }
+
+    /// Prints how often each sort had each of its answers at least; false if one never came.
+    pub fn summary(&self) -> bool {
+        let (mut pass, mut stay) = (vec![0x18, 0x19, 0x1E], vec![0x1A, 0x1C, 0x1D]);
+        for index in 0..128 {
+            let listed = ROOM_CONTROLLERS.contains(&index);
+            (if listed { &mut pass } else { &mut stay }).push(32 + index);
+        }
+        let rows: [(&str, &[usize], [&[usize]; 2]); 5] = [
+            ("utility messages", &[0], [&[0, 9], &[0, 9]]),
+            ("voices on the list", &pass, [&[7, 8], &[0, 7, 9]]),
+            ("other voices", &stay, [&[7, 23], &[7, 23]]),
+            ("other checked types", &[1, 3], [&[7, 23], &[7, 23]]),
+            ("unread types", &[0x5, 0xD, 0xF], [&[23], &[23]]),
+        ];
+        let complete = rows.map(|(name, sorts, answers)| self.row(name, sorts, answers));
+        complete == [true; 5]
+    }
+
+    /// Prints the row of these sorts, with the answers that each of them must have had beside a
+    /// record that is not sound and beside a sound one.
+    fn row(&self, name: &str, sorts: &[usize], answers: [&[usize]; 2]) -> bool {
+        let mut complete = true;
+        for (sound, beside) in ["an unsound", "a sound"].iter().enumerate() {
+            let times = |sort: &usize, answer: usize| self.0[*sort][sound][answer];
+            let least = |answer: &usize| sorts.iter().map(|sort| times(sort, *answer)).min();
+            let counts: Vec<_> = answers[sound].iter().flat_map(least).collect();
+            println!(
+                "in the room {name} beside {beside} record answered {:?} at least {counts:?}",
+                answers[sound]
+            );
+            complete &= counts.iter().all(|count| *count > 0);
+        }
+        complete
     }
 }
