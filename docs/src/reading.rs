@@ -2,9 +2,16 @@
 //! Read from the build specification, the requests that amend it, and M2-104-UM 1.1.1, sections 7.2
 //! to 7.7 and Appendix D.
 
+mod hosts;
+
 #[cfg(test)]
 #[path = "reading_tests.rs"]
 mod tests;
+
+pub use hosts::{
+    give_group, host_down, host_keys_down, host_mark_coarse, host_run_down, host_run_up, host_up,
+    GIVEN, NOBODY, NOT_YOUR_GROUP,
+};
 
 // The answers of a call, by their numbers in the build specification.
 pub const SENT: u32 = 0;

@@ -2,6 +2,8 @@ use super::*;
 
 #[path = "beginners_tests.rs"]
 mod beginners;
+#[path = "hosts_tests.rs"]
+mod hosts;
 
 const UNTOUCHED: u32 = 0xAAAA_AAAA;
 
