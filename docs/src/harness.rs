@@ -1,15 +1,17 @@
 //! Holds single calls, runs, lessons, questions and marks of the product's static library to the
-//! reading, the beginners' room among them, or times both.
+//! reading, those in the beginners' room and those of two hosts among them, or times both.
 //! Usage: harness [CASES] with the number of random cases, which follow millions of swept ones and
 //! come before half as many random lessons;
 //! or: harness time
 
 mod entries;
+mod host_sweeps;
 mod packets;
 mod tally;
 mod timing;
 
 use entries::{entry, every_value, Entries, ENTRIES};
+use host_sweeps::{throw_host, Hosts, LONGEST_OWNERS};
 use packets::{
     bad_packet, every_place, packet_about_data, packet_about_keys, place_of, record_number, Dice,
     Named,
@@ -78,6 +80,73 @@ extern "C" {
         channel: u8,
         coarse: u8,
     ) -> u32;
+    fn quernbrae_host_up(
+        host: u8,
+        owners: *const u8,
+        owners_len: usize,
+        words: *const u32,
+        words_len: usize,
+        table: *mut Record,
+        table_len: usize,
+        out: *mut u32,
+        out_len: usize,
+    ) -> Done;
+    fn quernbrae_host_run_up(
+        host: u8,
+        owners: *const u8,
+        owners_len: usize,
+        words: *const u32,
+        words_len: usize,
+        table: *mut Record,
+        table_len: usize,
+        out: *mut u32,
+        out_len: usize,
+    ) -> Done;
+    fn quernbrae_host_down(
+        host: u8,
+        owners: *const u8,
+        owners_len: usize,
+        words: *const u32,
+        words_len: usize,
+        out: *mut u32,
+        out_len: usize,
+    ) -> Done;
+    fn quernbrae_host_run_down(
+        host: u8,
+        owners: *const u8,
+        owners_len: usize,
+        words: *const u32,
+        words_len: usize,
+        out: *mut u32,
+        out_len: usize,
+    ) -> Done;
+    fn quernbrae_host_keys_down(
+        host: u8,
+        owners: *const u8,
+        owners_len: usize,
+        table: *const Record,
+        records: usize,
+        group: u8,
+        channel: u8,
+    ) -> Keys;
+    fn quernbrae_host_mark_coarse(
+        host: u8,
+        owners: *const u8,
+        owners_len: usize,
+        table: *mut Record,
+        records: usize,
+        group: u8,
+        channel: u8,
+        coarse: u8,
+    ) -> u32;
+    fn quernbrae_give_group(
+        owners: *mut u8,
+        owners_len: usize,
+        table: *mut Record,
+        records: usize,
+        group: u8,
+        host: u8,
+    ) -> u32;
 }
 
 const DEFAULT_CASES: usize = 1_000_000;
@@ -100,6 +169,9 @@ const GUARDS: usize = 16;
 /// The list of marks that a lesson is lent, and numbers behind it that would mark as well.
 const COARSE_SPACE: usize = LONGEST_COARSE + 4;
 
+/// The list of owners that a host's call is lent, and numbers behind it that would be owners too.
+const OWNERS_SPACE: usize = LONGEST_OWNERS + 4;
+
 #[derive(Clone, Copy, Debug)]
 enum Function {
     Up,
@@ -108,20 +180,31 @@ enum Function {
     RunDown,
     BeginnersUp,
     BeginnersRunUp,
+    HostUp,
+    HostRunUp,
+    HostDown,
+    HostRunDown,
     Lesson,
 }
 
-use Function::{BeginnersRunUp, BeginnersUp, Down, Lesson, RunDown, RunUp, Up};
+use Function::{
+    BeginnersRunUp, BeginnersUp, Down, HostDown, HostRunDown, HostRunUp, HostUp, Lesson, RunDown,
+    RunUp, Up,
+};
 
 /// The functions, each with the answers that can occur in it. Lessons come last, since their random
 /// cases come by themselves.
-const FUNCTIONS: [(Function, &[usize]); 7] = [
+const FUNCTIONS: [(Function, &[usize]); 11] = [
     (Up, &[0, 1, 3, 4, 5, 6, 7, 8, 9, 10]),
     (RunUp, &[0, 3, 8, 9, 10]),
     (Down, &[0, 2, 3, 4, 5, 6, 7, 9]),
     (RunDown, &[0, 3, 9]),
     (BeginnersUp, &[0, 3, 4, 5, 6, 7, 8, 9, 10, 23]),
     (BeginnersRunUp, &[0, 3, 8, 9, 10]),
+    (HostUp, &[0, 1, 3, 4, 5, 6, 7, 8, 9, 10, 13]),
+    (HostRunUp, &[0, 3, 8, 9, 10]),
+    (HostDown, &[0, 2, 3, 4, 5, 6, 7, 9, 13]),
+    (HostRunDown, &[0, 3, 9]),
     (Lesson, &[0, 3, 9]),
 ];
 
@@ -130,16 +213,20 @@ const ANSWERS: usize = 24;
 
 impl Function {
     fn goes_up(self) -> bool {
-        !matches!(self, Down | RunDown)
+        !matches!(self, Down | RunDown | HostDown | HostRunDown)
     }
 
     fn runs(self) -> bool {
-        !matches!(self, Up | Down | BeginnersUp)
+        !matches!(self, Up | Down | BeginnersUp | HostUp | HostDown)
+    }
+
+    fn is_of_a_host(self) -> bool {
+        matches!(self, HostUp | HostRunUp | HostDown | HostRunDown)
     }
 
     /// A lesson's table is gone when it ends.
     fn can_be_taken_up_again(self) -> bool {
-        matches!(self, RunUp | RunDown | BeginnersRunUp)
+        self.runs() && !matches!(self, Lesson)
     }
 
     /// The types with checked fields that are not of the wrong protocol.
@@ -169,6 +256,9 @@ struct Lent {
     table_len: usize,
     coarse: [u16; COARSE_SPACE],
     coarse_len: usize,
+    host: u8,
+    owners: [u8; OWNERS_SPACE],
+    owners_len: usize,
     out: Vec<u32>,
     room: usize,
 }
@@ -184,6 +274,9 @@ impl Lent {
             table_len: 256,
             coarse: [0; COARSE_SPACE],
             coarse_len: 0,
+            host: 1,
+            owners: [1; OWNERS_SPACE],
+            owners_len: 16,
             out,
             room: 0,
         }
@@ -196,6 +289,9 @@ impl Lent {
         self.table_len = other.table_len;
         self.coarse = other.coarse;
         self.coarse_len = other.coarse_len;
+        self.host = other.host;
+        self.owners = other.owners;
+        self.owners_len = other.owners_len;
         self.out.clone_from(&other.out);
         self.room = other.room;
     }
@@ -215,6 +311,7 @@ impl Lent {
         let words = &self.words[..self.words_len];
         let table = &mut self.table[..self.table_len];
         let out = &mut self.out[..self.room];
+        let (host, owners) = (self.host, &self.owners[..self.owners_len]);
         match function {
             Up => reading::up(words, table, out),
             RunUp => reading::run_up(words, table, out),
@@ -222,6 +319,10 @@ impl Lent {
             RunDown => reading::run_down(words, out),
             BeginnersUp => reading::beginners_up(words, table, out),
             BeginnersRunUp => reading::beginners_run_up(words, table, out),
+            HostUp => reading::host_up(host, owners, words, table, out),
+            HostRunUp => reading::host_run_up(host, owners, words, table, out),
+            HostDown => reading::host_down(host, owners, words, out),
+            HostRunDown => reading::host_run_down(host, owners, words, out),
             Lesson => reading::lesson(words, &self.coarse[..self.coarse_len], out),
         }
     }
@@ -241,6 +342,7 @@ impl Lent {
         assert!(read <= self.words_len && written + room <= self.out.len());
         let (table, table_len) = (self.table.as_mut_ptr(), self.table_len);
         let (coarse, coarse_len) = (self.coarse.as_ptr(), self.coarse_len);
+        let (host, owners, owners_len) = (self.host, self.owners.as_ptr(), self.owners_len);
         let words_len = self.words_len - read;
         // The lent parts lie within what is kept, as asserted.
         unsafe {
@@ -256,6 +358,18 @@ impl Lent {
                 }
                 BeginnersRunUp => {
                     quernbrae_beginners_run_up(words, words_len, table, table_len, out, room)
+                }
+                HostUp => quernbrae_host_up(
+                    host, owners, owners_len, words, words_len, table, table_len, out, room,
+                ),
+                HostRunUp => quernbrae_host_run_up(
+                    host, owners, owners_len, words, words_len, table, table_len, out, room,
+                ),
+                HostDown => {
+                    quernbrae_host_down(host, owners, owners_len, words, words_len, out, room)
+                }
+                HostRunDown => {
+                    quernbrae_host_run_down(host, owners, owners_len, words, words_len, out, room)
                 }
                 Lesson => quernbrae_lesson(words, words_len, coarse, coarse_len, out, room),
             }
@@ -299,6 +413,7 @@ struct Comparison {
     key_voices: KeyVoices,
     entries: Entries,
     in_the_room: InTheRoom,
+    hosts: Hosts,
     asked: Asked,
     marks: Marks,
     lessons: Lessons,
@@ -318,6 +433,7 @@ impl Comparison {
             key_voices: KeyVoices::new(),
             entries: Entries::new(),
             in_the_room: InTheRoom::new(),
+            hosts: Hosts::new(),
             asked: Asked::new(),
             marks: Marks::new(),
             lessons: Lessons::new(),
@@ -349,6 +465,9 @@ impl Comparison {
         if let (BeginnersUp, Some(word)) = (function, self.case.words.first()) {
             let own = &self.case.table[self.case.own()];
             self.in_the_room.count(*word, expected.answer, own);
+        }
+        if let (HostUp | HostDown, Some(_)) = (function, self.case.words.first()) {
+            self.hosts.count(function, expected.answer, &self.case);
         }
         if function.can_be_taken_up_again() && expected.answer == reading::OUTPUT_SHORT {
             self.take_up_again(function);
@@ -455,6 +574,7 @@ impl Comparison {
         let same_memory = product.out == reading.out
             && product.table == reading.table
             && product.coarse == reading.coarse
+            && product.owners == reading.owners
             && product.words == reading.words;
         if done == expected && same_memory {
             return;
@@ -465,12 +585,15 @@ impl Comparison {
         println!("words: {}, first {:08X?}", case.words_len, first_words);
         println!("records: {}, room: {}", case.table_len, case.room);
         println!("coarse: {:04X?}", &case.coarse[..case.coarse_len]);
+        let owners = &case.owners[..case.owners_len];
+        println!("host: {}, owners: {owners:?}", case.host);
         println!("first packet's record: {:?}", case.table[case.own()]);
         println!("product: {:?}\nreading: {:?}", done, expected);
         show_difference("output", &case.out, &product.out, &reading.out);
         show_difference("record", &case.table, &product.table, &reading.table);
         show_difference("input", &case.words, &product.words, &reading.words);
         show_difference("coarse", &case.coarse, &product.coarse, &reading.coarse);
+        show_difference("owner", &case.owners, &product.owners, &reading.owners);
         std::process::exit(1);
     }
 }
@@ -566,6 +689,9 @@ impl Comparison {
                 self.single(Up, packet);
                 self.single(Down, packet);
                 self.single(BeginnersUp, packet);
+                throw_host(&mut self.dice, &mut self.case);
+                self.single(HostUp, packet);
+                self.single(HostDown, packet);
             }
         }
         self.case.table.fill(empty());
@@ -1011,6 +1137,9 @@ impl Comparison {
         let (function, _) = FUNCTIONS[self.cases % Lesson as usize];
         throw_words(dice, function, &mut self.case);
         throw_table(dice, pool, &mut self.case);
+        if function.is_of_a_host() {
+            throw_host(dice, &mut self.case);
+        }
         self.throw_room();
         self.compare(function);
         if function.goes_up() {
@@ -1092,7 +1221,7 @@ impl Comparison {
         }
         complete &= self.key_voices.summary();
         complete &= self.entries.summary("Up", &[SENT, TAKEN_IN, OUTPUT_SHORT]);
-        complete &= self.in_the_room.summary();
+        complete &= self.in_the_room.summary() & self.hosts.summary();
         complete &= self.asked.summary() & self.marks.summary();
         complete &= self.lessons.summary();
         if !complete {
@@ -1155,6 +1284,10 @@ fn compare_all(random_cases: usize) {
     comparison.every_midi_2_voice();
     comparison.every_bad_place();
     comparison.every_packet_in_the_room();
+    comparison.every_packet_of_a_host();
+    comparison.every_owner();
+    comparison.every_channel_of_a_host();
+    comparison.every_gift();
     comparison.every_record();
     comparison.every_data_entry();
     comparison.every_channel_asked();
@@ -1171,6 +1304,9 @@ fn compare_all(random_cases: usize) {
     }
     for _ in 0..random_cases / 2 {
         comparison.random_lesson();
+    }
+    for _ in 0..random_cases / 50 {
+        comparison.history(&pool);
     }
     comparison.summary();
 }
