@@ -29,8 +29,9 @@ enum {
     QUERNBRAE_NOT_SOUND = 8,      /* going up, and of a mark: the record of the channel breaks 5.2 */
     QUERNBRAE_NO_ROOM = 9,        /* the output cannot hold what the packet sends (3.4) */
     QUERNBRAE_NO_TABLE = 10,      /* the table has more or fewer than 256 records */
+    QUERNBRAE_NOT_YOURS = 13,     /* of a host: the group is not its own (2.6) */
     QUERNBRAE_NOT_FOR_ROOM = 23,  /* in the beginners' room: good, but not on its list (2.5) */
-    QUERNBRAE_OUT_OF_RANGE = 24   /* of a question or a mark: a group or a channel above 15 (5.8, 5.9) */
+    QUERNBRAE_OUT_OF_RANGE = 24   /* a group or a channel above 15, or a group that cannot be given (5.8 to 5.10) */
 };
 
 /* The address kinds of a record (docs/RULES.md, 5.1). */
@@ -78,8 +79,8 @@ enum { QUERNBRAE_NO_KEY = 255 };
 quernbrae_record quernbrae_empty(void);
 
 /* One call up, for the packet at the start of words (docs/RULES.md, 6).
- * After answers 2 to 10, and 23, table and output are as they were. After 0 and 1 the record of the packet's channel may have
- * changed, and the words written are the only other change (3.3). */
+ * After answers 2 to 10, and 23, table and output are as they were. After 0 and 1 the record of the packet's channel
+ * may have changed, and the words written are the only other change (3.3). */
 quernbrae_done quernbrae_up(const uint32_t *words, size_t words_len,
                             quernbrae_record *table, size_t table_len,
                             uint32_t *out, size_t out_len);
@@ -128,6 +129,45 @@ quernbrae_keys quernbrae_keys_down(const quernbrae_record *table, size_t table_l
  * record's data_high is missing, even where the mark was there already, and the rest of the record stays. */
 uint32_t quernbrae_mark_coarse(quernbrae_record *table, size_t table_len,
                                uint8_t group, uint8_t channel, uint8_t coarse);
+
+/* Two hosts on one box (docs/RULES.md, 2.6). Number g of owners is the host that has group g: 1 or 2; any other number,
+ * and a group past the end of the list, is nobody's. A host other than 1 and 2 owns nothing. What follows is as without
+ * a host, but a packet of MT 1 to 5 or D of a group that is not the host's is answered 13, after 5 and before 6, and a
+ * run goes on after it. Nothing that a host is answered, sent or left depends on what the other one does. */
+quernbrae_done quernbrae_host_up(uint8_t host, const uint8_t *owners, size_t owners_len,
+                                 const uint32_t *words, size_t words_len,
+                                 quernbrae_record *table, size_t table_len,
+                                 uint32_t *out, size_t out_len);
+
+quernbrae_done quernbrae_host_run_up(uint8_t host, const uint8_t *owners, size_t owners_len,
+                                     const uint32_t *words, size_t words_len,
+                                     quernbrae_record *table, size_t table_len,
+                                     uint32_t *out, size_t out_len);
+
+quernbrae_done quernbrae_host_down(uint8_t host, const uint8_t *owners, size_t owners_len,
+                                   const uint32_t *words, size_t words_len,
+                                   uint32_t *out, size_t out_len);
+
+quernbrae_done quernbrae_host_run_down(uint8_t host, const uint8_t *owners, size_t owners_len,
+                                       const uint32_t *words, size_t words_len,
+                                       uint32_t *out, size_t out_len);
+
+/* The question of a host: 10 and 24 as always, then 13 for a group that is not its own. */
+quernbrae_keys quernbrae_host_keys_down(uint8_t host, const uint8_t *owners, size_t owners_len,
+                                        const quernbrae_record *table, size_t table_len,
+                                        uint8_t group, uint8_t channel);
+
+/* A mark of a host: 10 and 24 as always, then 13, then 8. All four change nothing. */
+uint32_t quernbrae_host_mark_coarse(uint8_t host, const uint8_t *owners, size_t owners_len,
+                                    quernbrae_record *table, size_t table_len,
+                                    uint8_t group, uint8_t channel, uint8_t coarse);
+
+/* Gives a group to host 1 or 2, or to nobody by 0 (docs/RULES.md, 5.10). Where the group changes hands its 16 records
+ * are empty afterwards. Answers 0, or 10, or 24 for a group above 15 or past the owner list, or a host above 2; these
+ * two change nothing. Call it between runs. */
+uint32_t quernbrae_give_group(uint8_t *owners, size_t owners_len,
+                              quernbrae_record *table, size_t table_len,
+                              uint8_t group, uint8_t host);
 
 #ifdef __cplusplus
 }
