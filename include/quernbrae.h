@@ -78,8 +78,8 @@ enum { QUERNBRAE_NO_KEY = 255 };
 quernbrae_record quernbrae_empty(void);
 
 /* One call up, for the packet at the start of words (docs/RULES.md, 6).
- * After answers 2 to 10, and 23, table and output are as they were. After 0 and 1 the record of the packet's channel may have
- * changed, and the words written are the only other change (3.3). */
+ * After answers 2 to 10, and 23, table and output are as they were. After 0 and 1 the record of the packet's channel
+ * may have changed, and the words written are the only other change (3.3). */
 quernbrae_done quernbrae_up(const uint32_t *words, size_t words_len,
                             quernbrae_record *table, size_t table_len,
                             uint32_t *out, size_t out_len);

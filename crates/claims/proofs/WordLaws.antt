@@ -11,7 +11,7 @@ use Rattle.ump.specs.declared.Group.{Group}
 use Rattle.ump.specs.declared.Channel.{Channel}
 use Rattle.ump.specs.Word.{bankFlag, byte1, byte3, byte4, voice1, voice2}
 use Rattle.fields.specs.Check.{Field, badPlace, checkedFields, goodStatus, seven, voice1Fields, voice2Fields}
-use Rattle.screen.specs.Screen.{admitted, answering, checkVoice1, goesOn, openRule, placed, screen, screenBy}
+use Rattle.screen.specs.Screen.{admitted, answering, checkVoice1, goesOn, placed, screen, screenBy}
 use Rattle.screen.proofs.ScreenLaws.{screen-voice1}
 use Rattle.message.specs.Message.{Fits1, Midi1, Midi2, channelPressure1, controlChange1, first2, noteOff1, noteOn1}
 use Rattle.message.specs.Message.{pitchBend1, polyPressure1, programChange1, second2, voiceWord, write1, write2}
@@ -22,10 +22,10 @@ use Rattle.lift.proofs.LiftLaws.{anyPolyPressure, anyPressure, anyProgram, anyR
 module _ (g : Group) (c : Channel) (hg : g .0 < 16) (hc : c .0 < 16) where
   word-good1 : (s a b : ℕ) → 8 ≤ s → s ≤ 14 → a ≤ 127 → b ≤ 127
       → screen voice2 (voiceWord 2 g s c a b ∷ []) ≡ answering goesOn
-  unfolding checkVoice1 voice1Fields badPlace admitted
+  unfolding checkVoice1 voice1Fields badPlace
   word-good1 s a b hs hs′ ha hb =
       let f = built 2 g s c a b (omega arith) hg (omega arith) hc (omega arith) (omega arith) in
-      screen-voice1 openRule (voiceWord 2 g s c a b) (f .is-type)
+      screen-voice1 (voiceWord 2 g s c a b) (f .is-type)
       ∙ rw (f .is-status, f .is-byte3, f .is-byte4, le-leb 8 s hs, le-leb s 14 hs′)
       (choose (λ (fs : List Field). placed (badPlace fs) goesOn ≡ answering goesOn)
       (eqb s 12 || eqb s 13) (λ _. rw (le-leb a 127 ha)) (λ _. rw (le-leb a 127 ha, le-leb b 127 hb)))

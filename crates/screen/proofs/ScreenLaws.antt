@@ -1,6 +1,6 @@
 -- Laws of the screening: a MIDI 1.0 voice message is screened by its one word; only a cut packet is refused by an answer
 -- that stops a run; the place goes with the answer; what passes, also under a rule. Assumes nothing.
-use mathlib.Core.Path.{_≡_, refl}
+use mathlib.Core.Path.{_≡_, refl, sym, ap, _∙_}
 use mathlib.Core.Bool.{Bool, true, false, cond, not}
 use mathlib.Core.List.{List, [], _∷_}
 use Prim.Native.Nat.{ℕ}
@@ -18,15 +18,24 @@ use Rattle.stream.specs.Call.{Call, refused}
 use Rattle.stream.specs.Report.{placeTold}
 use Rattle.screen.specs.declared.Rule.{Rule}
 use Rattle.screen.specs.declared.Screened.{Screened}
-use Rattle.fields.specs.Check.{Field, badPlace, badPlaceOf, checkedFields, goodFields, goodStatus, voice1Fields}
-use Rattle.fields.specs.Check.{voice1Status}
+use Rattle.fields.specs.Check.{Field, badPlace, badPlaceOf, checkedFields, goodFields, goodStatus}
 use Rattle.screen.specs.Screen.{admitted, answering, beginnersRule, checkVoice1, checking, forBeginners}
-use Rattle.screen.specs.Screen.{goesOn, reserved, screen, screenBy, screened}
+use Rattle.screen.specs.Screen.{goesOn, reserved, ruled, screen, screenBy, screenVoice1, screened}
 
--- a MIDI 1.0 voice message, going up
-pub screen-voice1 : (rule : Rule) (w : ℕ) → messageType w ≡ 2 → screenBy rule voice2 (w ∷ []) ≡ checkVoice1 rule w
-unfolding screenBy goodStatus checkedFields checkVoice1
-screen-voice1 rule w h = rw h
+-- a rule that asks nothing is the open one
+unruled : (rule : Rule) (wrong : ℕ) (p : List ℕ) → ruled rule ≡ false → screenBy rule wrong p ≡ screen wrong p
+unruled rule wrong p e = ap (λ (b : Bool). screenBy (record { beginners = b }) wrong p) e
+
+-- a MIDI 1.0 voice message, going up: by its one word, without a rule and with any
+pub screen-voice1 : (w : ℕ) → messageType w ≡ 2 → screen voice2 (w ∷ []) ≡ checkVoice1 w
+unfolding screenBy admitted goodStatus checkedFields checkVoice1
+screen-voice1 w h = rw h
+
+pub screen-word : (rule : Rule) (w : ℕ) → messageType w ≡ 2 → screenVoice1 rule w ≡ screenBy rule voice2 (w ∷ [])
+unfolding screenVoice1
+screen-word rule w h =
+    choose (λ (s : Screened). s ≡ screenBy rule voice2 (w ∷ [])) (ruled rule)
+    (λ _. refl) (λ e. sym (screen-voice1 w h) ∙ sym (unruled rule voice2 (w ∷ []) e))
 
 -- what a good packet is answered with goes on, or is not for this room
 admits : (P : ℕ → Type 0) (rule : Rule) (w : ℕ) → P goesOn → P notForRoom → P (admitted rule w)
@@ -63,21 +72,11 @@ screen-place rule wrong p =
     screens (λ (s : Screened). s .place ≡ placeTold (s .answer) p) rule wrong p
     (λ _. refl) refl refl refl (λ _. refl) refl refl
 
-pub check-place : (rule : Rule) (w : ℕ) → messageType w ≡ 2
-    → checkVoice1 rule w .place ≡ placeTold (checkVoice1 rule w .answer) (w ∷ [])
-check-place rule w h = rw (screen-voice1 rule w h) at (screen-place rule voice2 (w ∷ []))
-
 -- only where no packet is whole does the screening stop a run
 pub cut-only : (rule : Rule) (wrong : ℕ) (p : List ℕ) → stopsRun (screenBy rule wrong p .answer) ≡ true → p ≡ []
 cut-only rule wrong p =
     screens (λ (s : Screened). stopsRun (s .answer) ≡ true → p ≡ []) rule wrong p
     (λ e _. e) not-both not-both not-both (λ _. not-both) not-both not-both
-
-pub check-goes-on : (rule : Rule) (w : ℕ) → stopsRun (checkVoice1 rule w .answer) ≡ false
-unfolding checkVoice1
-check-goes-on rule w =
-    checks (λ (s : Screened). stopsRun (s .answer) ≡ false) (voice1Status w) (voice1Fields w) rule w
-    refl (λ _. refl) refl refl
 
 -- a refusal is neither `sent` nor `takenIn`
 abbrev Above : Screened → Type 0
@@ -88,12 +87,6 @@ pub refused-above : (rule : Rule) (wrong : ℕ) (p : List ℕ) → (screenBy rul
 refused-above rule wrong p =
     screens Above rule wrong p (λ _ _. refl) (λ _. refl) (λ _. refl) (λ _. refl) (λ _ _. refl) (λ _. refl)
     (λ n. absurd (n refl))
-
-pub check-above : (rule : Rule) (w : ℕ) → (checkVoice1 rule w .answer ≡ goesOn → ⊥)
-    → leb (checkVoice1 rule w .answer) takenIn ≡ false
-unfolding checkVoice1
-check-above rule w =
-    checks Above (voice1Status w) (voice1Fields w) rule w (λ _. refl) (λ _ _. refl) (λ _. refl) (λ n. absurd (n refl))
 
 -- a packet that goes on is no empty part, and nothing is wrong with it
 pub record Passed (wrong : ℕ) (p : List ℕ) : Type 0 where

@@ -1,10 +1,10 @@
 -- The screening of a packet: the refusals before the act, in the order of RULES 3.2, with the rule of a room.
 use Prim.Native.Nat.{ℕ}
 use mathlib.Core.Bool.{Bool, true, false, cond, not, _&&_, _||_}
-use mathlib.Core.List.{List}
+use mathlib.Core.List.{List, [], _∷_}
 use lib.ListN.{length}
 use lib.Dec.{eqb, leb}
-use Rattle.ump.specs.Word.{data1, messageType, status, voice1}
+use Rattle.ump.specs.Word.{data1, messageType, status, voice1, voice2}
 use Rattle.ump.specs.Packet.{first, second}
 use Rattle.stream.specs.Answers.{badData, badStatus, cutPacket, notForRoom, reservedType, wrongProtocol}
 use Rattle.stream.specs.Call.{Call, refused}
@@ -68,9 +68,15 @@ screenBy rule wrong p =
 abbrev pub screen : ℕ → List ℕ → Screened
 screen = screenBy openRule
 
--- the same of a packet that is known to be a MIDI 1.0 voice message, by its one word
-unfoldable pub checkVoice1 : Rule → ℕ → Screened
-checkVoice1 rule w = checking (voice1Status w) (voice1Fields w) (admitted rule w)
+-- A MIDI 1.0 voice message is screened by its one word where a rule asks nothing, and else as a packet of that word.
+unfoldable pub checkVoice1 : ℕ → Screened
+checkVoice1 w = checking (voice1Status w) (voice1Fields w) goesOn
+
+abbrev pub ruled : Rule → Bool
+ruled rule = rule .beginners
+
+unfoldable pub screenVoice1 : Rule → ℕ → Screened
+screenVoice1 rule w = cond (ruled rule) (screenBy rule voice2 (w ∷ [])) (checkVoice1 w)
 
 -- what a packet does in the state t, once it is screened: it is refused, or it acts
 unfoldable pub screened : {T : Type 0} → Screened → T → Call T → Call T

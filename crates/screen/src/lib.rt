@@ -10,6 +10,7 @@ use stream::NOT_FOR_ROOM;
 use stream::RESERVED;
 use stream::WRONG_PROTOCOL;
 use ump::MIDI1_VOICE;
+use ump::MIDI2_VOICE;
 use ump::message_type;
 use ump::word_at;
 ghost use mathlib.Core.Path.{_≡_};
@@ -17,6 +18,7 @@ ghost use Rattle.fields.specs.Check.{checkedFields, goodStatus};
 ghost use Rattle.screen.specs.Screen.{admitted, answering, beginnersController};
 ghost use Rattle.screen.specs.Screen.{checkVoice1, checking, forBeginners, openRule, placed};
 ghost use Rattle.screen.specs.Screen.{reserved, screenBy};
+ghost use Rattle.screen.specs.Screen.{screenVoice1};
 ghost use Rattle.screen.specs.Screen;
 
 // What the screening finds of a packet: the answer that refuses it, or `GOES_ON`; and the place of the
@@ -110,16 +112,16 @@ fn check(rule: Rule, w: u32, v: u32) -> Screened
     }
 }
 
-// A MIDI 1.0 voice message by its one word: the check that the translation upward asks most. The place
-// is worked out only where a field is bad.
-pub fn check_voice1(rule: Rule, w: u32) -> Screened
-    ensures { λ r. ⌜ r ≡ checkVoice1 rule w ⌝ }
+// A MIDI 1.0 voice message by its one word, where no rule asks anything: the check that the translation
+// upward asks most. The place is worked out only where a field is bad.
+fn check_voice1(w: u32) -> Screened
+    ensures { λ r. ⌜ r ≡ checkVoice1 w ⌝ }
 {
     if fields::is_voice1_status(w) {
         if fields::is_good_voice1(w) {
-            finding(admit(rule, w))
+            finding(GOES_ON)
         } else {
-            finding_place(fields::bad_place_voice1(w), admit(rule, w))
+            finding_place(fields::bad_place_voice1(w), GOES_ON)
         }
     } else {
         finding(BAD_STATUS)
@@ -143,6 +145,18 @@ pub fn screen_by(rule: Rule, wrong: u32, packet: &[u32]) -> Screened
         return finding(WRONG_PROTOCOL);
     }
     check(rule, w, word_at(packet, 1))
+}
+
+// A MIDI 1.0 voice message going up under a rule, by its one word.
+pub fn screen_voice1(rule: Rule, w: u32) -> Screened
+    ensures { λ r. ⌜ r ≡ screenVoice1 rule w ⌝ }
+{
+    if rule.beginners {
+        let one = [w];
+        screen_by(rule, MIDI2_VOICE, &one)
+    } else {
+        check_voice1(w)
+    }
 }
 
 // The same where no rule holds.

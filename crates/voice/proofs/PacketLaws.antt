@@ -22,8 +22,8 @@ use Rattle.stream.proofs.CallLaws.{refusal, refused-fits}
 use Rattle.stream.proofs.RunLaws.{Does}
 use Rattle.stream.proofs.RunLoop.{Inside}
 use Rattle.screen.specs.declared.Rule.{Rule}
-use Rattle.screen.specs.Screen.{checkVoice1, goesOn, openRule, screen, screenBy, screened}
-use Rattle.screen.proofs.ScreenLaws.{cut-only, refused-above, screen-voice1, screened-cases}
+use Rattle.screen.specs.Screen.{goesOn, openRule, screen, screenBy, screened}
+use Rattle.screen.proofs.ScreenLaws.{cut-only, refused-above, screened-cases}
 use Rattle.channel.specs.declared.Record.{Record}
 use Rattle.channel.specs.Record.{sound}
 use Rattle.message.specs.Message.{Midi1, Midi2, read1, read2, write1, write2}
@@ -191,9 +191,9 @@ up-cut rule ok r = refl
 
 -- a MIDI 1.0 voice message by its one word
 pub packet-voice1 : (rule : Rule) (ok : Bool) (r : Record) (w : ℕ) → messageType w ≡ 2
-    → packetIf rule ok r (w ∷ []) ≡ screened (checkVoice1 rule w) r (speakIf ok r w)
+    → packetIf rule ok r (w ∷ []) ≡ screened (screenBy rule voice2 (w ∷ [])) r (speakIf ok r w)
 unfolding packetIf
-packet-voice1 rule ok r w h = rw (screen-voice1 rule w h, h)
+packet-voice1 rule ok r w h = rw h
 
 -- The effect that is told is what becomes of the record, in an output of so much room.
 module _ (rule : Rule) (room : ℕ) (ok : Bool) (r : Record) (p : List ℕ) where

@@ -24,8 +24,8 @@ use Rattle.stream.specs.Report.{counting, placeTold, placing}
 use Rattle.stream.proofs.CallLaws.{refusal, refused-fits}
 use Rattle.screen.specs.declared.Rule.{Rule}
 use Rattle.screen.specs.declared.Screened.{Screened}
-use Rattle.screen.specs.Screen.{checkVoice1, goesOn, openRule, screen, screenBy, screened}
-use Rattle.screen.proofs.ScreenLaws.{check-above, check-goes-on, check-place, cut-only, screen-place}
+use Rattle.screen.specs.Screen.{goesOn, openRule, screen, screenBy, screenVoice1, screened}
+use Rattle.screen.proofs.ScreenLaws.{cut-only, refused-above, screen-place, screen-word}
 use Rattle.channel.specs.declared.Record.{Record}
 use Rattle.channel.specs.Record.{sound}
 use Rattle.message.specs.Message.{Midi1, Midi2, read1, read2, write1}
@@ -287,24 +287,27 @@ pub speaks-unsound : (ok : Bool) (d : Done) (w : ℕ) (r : Record) (out : List �
 unfolding speakIf
 speaks-unsound ok d w r out h = (rw (h, add-zero (d .read), add-zero (d .written)), rw h (sym (written-none (d .written) out)))
 
--- a MIDI 1.0 voice message that the check refuses
-pub check-refused : (rule : Rule) (ok : Bool) (d : Done) (w : ℕ) (r : Record) (out : List ℕ) (s : Screened) → messageType w ≡ voice1 → s ≡ checkVoice1 rule w
+-- a MIDI 1.0 voice message that the screening refuses
+pub check-refused : (rule : Rule) (ok : Bool) (d : Done) (w : ℕ) (r : Record) (out : List ℕ) (s : Screened) → messageType w ≡ voice1 → s ≡ screenVoice1 rule w
     → (s .answer ≡ goesOn → ⊥)
-    → (record { after = r .memory; effect = leaves; done = placing (s .answer) (s .place) (d .read + 1) (d .written) }
-    ≡ turned d (w ∷ []) out r (effectOf (read1 w)) (screened (checkVoice1 rule w) r (speakIf ok r w)))
-    × (out ≡ outputOf d out (screened (checkVoice1 rule w) r (speakIf ok r w)))
+    → let x = screenBy rule voice2 (w ∷ []) in
+    (record { after = r .memory; effect = leaves; done = placing (s .answer) (s .place) (d .read + 1) (d .written) }
+    ≡ turned d (w ∷ []) out r (effectOf (read1 w)) (screened x r (speakIf ok r w)))
+    × (out ≡ outputOf d out (screened x r (speakIf ok r w)))
 check-refused rule ok d w r out s v e n =
-    let f : checkVoice1 rule w .answer ≡ goesOn → ⊥ = λ z. n (ap (λ (x : Screened). x .answer) e ∙ z) in
-    let no-packet : stopsRun (checkVoice1 rule w .answer) ≡ true → (w ∷ []) ≡ [] = λ k. not-both (sym (check-goes-on rule w) ∙ k) in
-    rw (e, refuses (checkVoice1 rule w) r (speakIf ok r w) f, check-place rule w v) (
-      refused-turn d (w ∷ []) out r (effectOf (read1 w)) (checkVoice1 rule w .answer) no-packet (check-above rule w f),
-      refused-output d (w ∷ []) out r (checkVoice1 rule w .answer) no-packet,
+    let x : Screened = screenBy rule voice2 (w ∷ []) in
+    let g : s ≡ x = e ∙ screen-word rule w v in
+    let f : x .answer ≡ goesOn → ⊥ = λ z. n (ap (λ (y : Screened). y .answer) g ∙ z) in
+    let no-packet : stopsRun (x .answer) ≡ true → (w ∷ []) ≡ [] = cut-only rule voice2 (w ∷ []) in
+    rw (g, refuses x r (speakIf ok r w) f, screen-place rule voice2 (w ∷ [])) (
+      refused-turn d (w ∷ []) out r (effectOf (read1 w)) (x .answer) no-packet (refused-above rule voice2 (w ∷ []) f),
+      refused-output d (w ∷ []) out r (x .answer) no-packet,
     )
 
 -- and the packet that is one
 pub voice-turn : (rule : Rule) (ok : Bool) (d : Done) (ws out : List ℕ) (r : Record) (x : EffectAndReport) (o : List ℕ) → messageType (getD ws (d .read) 0) ≡ voice1
     → let w = getD ws (d .read) 0 in
-    let c = screened (checkVoice1 rule w) r (speakIf ok r w) in
+    let c = screened (screenBy rule voice2 (w ∷ [])) r (speakIf ok r w) in
     (x ≡ turned d (w ∷ []) out r (effectOf (read1 w)) c) × (o ≡ outputOf d out c)
     → let p = next ws d in (x ≡ turned d p out r (effectAt p) (packetIf rule ok r p)) × (o ≡ outputOf d out (packetIf rule ok r p))
 voice-turn rule ok d ws out r x o e h = rw (voice-packet ws (d .read) e, packet-voice1 rule ok r (getD ws (d .read) 0) e, e) h

@@ -21,8 +21,8 @@ ghost use mathlib.Core.Path.{_≡_};
 ghost use mathlib.Core.Bool.{_||_};
 ghost use mathlib.Core.List.{[], _∷_};
 ghost use Prim.Native.Nat.{_+_, _<_, _^_};
-ghost use Rattle.ump.specs.Word.{messageType, voice1};
-ghost use Rattle.screen.specs.Screen.{checkVoice1, screened};
+ghost use Rattle.ump.specs.Word.{messageType, voice1, voice2};
+ghost use Rattle.screen.specs.Screen.{screenBy, screened};
 ghost use Rattle.channel.specs.Record.{sound};
 ghost use Rattle.message.specs.Message.{read1};
 ghost use Rattle.effect.specs.Effect.{leaves};
@@ -110,11 +110,11 @@ fn voice_up(
 ) -> EffectAndReport
     requires { ⌜ (past .read + 1 < 2 ^ 64) × (messageType w ≡ voice1) ⌝ }
     ensures turn { λ r. ⌜ r ≡ turned past (w ∷ []) (now (out .entry)) «record» (effectOf (read1 w))
-        (screened (checkVoice1 rule w) «record» (speakIf (known || sound «record») «record» w)) ⌝ }
+        (screened (screenBy rule voice2 (w ∷ [])) «record» (speakIf (known || sound «record») «record» w)) ⌝ }
     ensures output { λ _. ⌜ now (out .exit) ≡ outputOf past (now (out .entry))
-        (screened (checkVoice1 rule w) «record» (speakIf (known || sound «record») «record» w)) ⌝ }
+        (screened (screenBy rule voice2 (w ∷ [])) «record» (speakIf (known || sound «record») «record» w)) ⌝ }
 {
-    let screened = screen::check_voice1(rule, w);
+    let screened = screen::screen_voice1(rule, w);
     if screened.answer == GOES_ON {
         speak_up(past, record, known, w, out)
     } else {

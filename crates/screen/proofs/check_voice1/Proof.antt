@@ -12,7 +12,7 @@ check-voice1-spec =
     tie.close
     (tie.spec
     (λ c κs. search needs) (λ c κs. search needs) (λ c κs. search needs) (λ c κs. search needs)
-    (λ c κs. search needs) (λ c κs. search needs) (λ c κs. search needs) (λ c κs. search needs)
-    (λ c. simp (tests, c .finding .ensures, c .before .admit .ensures, sym (c .before .before .before .is-good-voice1 .ensures) ∙ c .before .before .if2 .taken, c .before .before .before .before .if1 .taken, ← c .before .before .before .before .before .is-voice1-status .ensures))
-    (λ c. simp (tests, c .finding-place .ensures, c .before .admit2 .ensures, c .before .before .bad-place-voice1 .ensures, c .before .before .before .before .before .if1 .taken, ← c .before .before .before .before .before .before .is-voice1-status .ensures))
+    (λ c κs. search needs) (λ c κs. search needs)
+    (λ c. simp (tests, c .finding .ensures, sym (c .before .before .is-good-voice1 .ensures) ∙ c .before .if2 .taken, c .before .before .before .if1 .taken, ← c .before .before .before .before .is-voice1-status .ensures))
+    (λ c. simp (tests, c .finding-place .ensures, c .before .bad-place-voice1 .ensures, c .before .before .before .before .if1 .taken, ← c .before .before .before .before .before .is-voice1-status .ensures))
     (λ c. simp (tests, ← c .finding2 .ensures, c .before .if1 .left, ← c .before .before .is-voice1-status .ensures)))

@@ -4,7 +4,10 @@ use mathlib.Core.Path.{sym, ap, _∙_}
 use mathlib.Core.Bool.{_||_}
 use denote.Ref.{now}
 use Rattle.screen.specs.declared.Screened.{Screened}
-use Rattle.screen.specs.Screen.{checkVoice1}
+use Rattle.ump.specs.Word.{voice2}
+use Rattle.screen.specs.Screen.{screenBy}
+use Rattle.screen.proofs.ScreenLaws.{screen-word}
+use mathlib.Core.List.{[], _∷_}
 use Rattle.channel.specs.Record.{sound}
 use Rattle.voice.specs.Packet.{speakIf}
 use Rattle.voice.proofs.TurnLaws.{check-refused, passes}
@@ -15,13 +18,13 @@ use Rattle.voice.proofs.upward.voice_up.Tie as tie
 returns : tie.Need-returns
 returns c =
     let a = c .before .before .before .before .before .before .before .before .args in
-    let s = c .before .before .before .before .before .before .check-voice1 in
-    rw (passes (checkVoice1 (a .rule) (a .w)) (a .«record») (speakIf (a .known || sound (a .«record»)) (a .«record») (a .w)) (sym (ap (λ (x : Screened). x .answer) (s .ensures)) ∙ c .before .before .before .before .if1 .taken)) (c .before .before .speak-up .ensures)
+    let s = c .before .before .before .before .before .before .screen-voice1 in
+    rw (passes (screenBy (a .rule) voice2 (a .w ∷ [])) (a .«record») (speakIf (a .known || sound (a .«record»)) (a .«record») (a .w)) (sym (ap (λ (x : Screened). x .answer) (s .ensures ∙ screen-word (a .rule) (a .w) (c .before .before .before .before .before .before .before .before .pre .1))) ∙ c .before .before .before .before .if1 .taken)) (c .before .before .speak-up .ensures)
 
 returns-2 : tie.Need-returns-2
 returns-2 c =
     let a = c .before .before .before .before .before .before .args in
-    let s = c .before .before .before .before .check-voice1 in
+    let s = c .before .before .before .before .screen-voice1 in
     rw (c .stays .ensures, c .before .refuse .ensures)
     (check-refused (a .rule) _ (a .past) (a .w) (a .«record») (now (a .out)) (s .result) (c .before .before .before .before .before .before .pre .1) (s .ensures) (c .before .before .if1 .left))
 
