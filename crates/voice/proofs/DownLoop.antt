@@ -1,40 +1,28 @@
 -- The loop of `run_down`: one more call down, and what it makes of the run so far. Assumes nothing.
-use mathlib.Core.Path.{_≡_, refl, ap, _∙_}
+use mathlib.Core.Path.{_≡_}
 use mathlib.Core.List.{List}
-use Prim.Native.Nat.{ℕ, _+_, _-_, _<_}
-use native.Mathlib.Omega.{arith}
-use lib.ListN.{drop, length}
+use Prim.Native.Nat.{ℕ, _<_}
+use lib.ListN.{length}
 use Rattle.stream.specs.declared.Done.{Done}
 use Rattle.stream.specs.Answers.{sent}
-use Rattle.stream.specs.Call.{Call, readOf, sentOf, within}
+use Rattle.stream.specs.Call.{within}
 use Rattle.stream.specs.Report.{counting}
-use Rattle.stream.proofs.RunLoop.{DidRun, Runs, turn}
+use Rattle.stream.proofs.RunLoop.{DidRun}
+use Rattle.stream.proofs.Stateless.{So, one-more}
 use Rattle.voice.specs.Packet.{callDown, packetDown, runDown}
 use Rattle.voice.specs.Turn.{next, outputOf, reportOf}
 use Rattle.voice.proofs.PacketLaws.{down-inside, down-near}
 
 -- what was done, and then the run down from here, is the whole run down
 abbrev pub Downs : List ℕ → List ℕ → List ℕ → ℕ → ℕ → Type 0
-Downs ws out₀ out i n = Runs callDown down-near down-inside tt ws out₀ tt out i n
+Downs ws out₀ out i n = So callDown down-near down-inside ws out₀ out i n
 
 module _ (ws out₀ out : List ℕ) (i n : ℕ) (inv : Downs ws out₀ out i n) (h : i < length ws) (r : Done) (after : List ℕ) where
   abbrev d : Done
   d = counting sent i n
 
-  abbrev c : Call (ℕ × Unit {0})
-  c = within callDown (length out - n, tt) (drop i ws)
-
   pub down-turn : r ≡ reportOf d (next ws d) out (packetDown (next ws d)) → after ≡ outputOf d out (packetDown (next ws d))
       → ((r .read ≡ i → ⊥) → Downs ws out₀ after (r .read) (r .written) × (i < r .read))
       × (r .read ≡ i → DidRun (runDown (length out₀) ws) out₀ (r .answer) (r .read) (r .written) tt after)
   unfolding within callDown runDown
-  down-turn e f =
-      let k = readOf (next ws d) c in
-      let m = length (sentOf c) in
-      let er : r .read ≡ i + k = ap (λ (x : Done). x .read) e in
-      let ew : r .written ≡ n + m = ap (λ (x : Done). x .written) e in
-      let t = turn callDown down-near down-inside tt ws out₀ tt out i n (r .answer) k m tt after inv h
-      (record { answers = ap (λ (x : Done). x .answer) e; reads = refl; writes = refl; leaves = refl; holds = f }) in (
-        λ z. let x = t .0 (λ q. z (er ∙ omega (arith, q))) in (rw (er, ew) (x .0), omega (arith, er, x .1)),
-        λ z. let x = t .1 (omega (arith, er, z)) in let y : r .written ≡ n = omega (arith, ew, x .1) in rw (z, y) (x .0),
-      )
+  down-turn e f = one-more callDown down-near down-inside ws out₀ out i n inv h r after e f
