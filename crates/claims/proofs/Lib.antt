@@ -13,3 +13,5 @@ pub mod PictureLaws
 pub mod MarkLaws
 pub mod SoundnessLaws
 pub mod LessonLaws
+pub mod Pieces
+pub mod OnePupilLaws

@@ -3,6 +3,7 @@
 ghost use Rattle.claims.specs.Lessons.{Lessons};
 ghost use Rattle.claims.specs.Marks.{Marks};
 ghost use Rattle.claims.specs.NormalForm.{NormalForm};
+ghost use Rattle.claims.specs.OnePupil.{OnePupil};
 ghost use Rattle.claims.specs.PacketByPacket.{PacketByPacket};
 ghost use Rattle.claims.specs.Picture.{Picture};
 ghost use Rattle.claims.specs.Places.{Places};
@@ -64,4 +65,9 @@ pub fn soundness()
 // The lesson run is the run up from its table.
 pub fn lessons()
     ensures { λ _. ⌜ Lessons ⌝ }
+{}
+
+// One pupil at a time: what a channel sends and remembers is that of its own packets alone.
+pub fn one_pupil()
+    ensures { λ _. ⌜ OnePupil ⌝ }
 {}

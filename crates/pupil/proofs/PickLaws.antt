@@ -1,7 +1,7 @@
 -- Laws of picking one channel's packets: each is one word; a step looks at its own packet alone and goes on only with a
 -- whole one; and what the code reports of a packet is what the definition says. Assumes nothing.
 use Prim.Native.Nat.{ℕ, zero, suc, _+_, _-_, _≤_, _<_}
-use mathlib.Core.Path.{_≡_, refl, sym, ap, _∙_}
+use mathlib.Core.Path.{_≡_, refl, sym}
 use mathlib.Core.Bool.{true, false}
 use mathlib.Core.Logic.{⊎-elim}
 use mathlib.Core.List.{List, [], _∷_}
