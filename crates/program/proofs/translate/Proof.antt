@@ -1,4 +1,4 @@
--- `filter::translate` meets its contract: a run reads no more words than it is given, and sends no more than its output
+-- `program::translate` meets its contract: a run reads no more words than it is given, and sends no more than its output
 -- holds; for the panel no byte has room. Assumes nothing.
 use Prim.Native.Nat.{_≤_}
 use native.Mathlib.Omega.{arith}
@@ -6,8 +6,8 @@ use borrow.Author.Needs.{needs}
 use denote.Ref.{now}
 use lib.ListN.{length, length-append}
 use Rattle.flow.proofs.BoundLaws.{down-bounds, lines-bounds}
-use Rattle.filter.proofs.translate.Statement.{statement}
-use Rattle.filter.proofs.translate.Tie as tie
+use Rattle.program.proofs.translate.Statement.{statement}
+use Rattle.program.proofs.translate.Tie as tie
 
 returns : tie.Need-returns
 returns c =
@@ -44,11 +44,14 @@ translate-spec =
     (λ c. search needs) (λ c κs. search needs) (λ c. search needs) (λ c κs. search needs) (λ c. search needs)
     (λ c κs. search needs)
     (λ c κs. down (c .before .before .before .before .before) .1)
-    (λ c. search needs) (λ c. search needs) (λ c. search needs) (λ c κs. search needs) (λ c. search needs)
+    (λ c. search needs) (λ c. search needs) (λ c. search needs) (λ c κs. search needs)
+    (λ c. search needs) (λ c κs. search needs) (λ c. search needs)
     returns
     (λ c. search needs) (λ c. search needs)
     (λ c. c .before .before .before .before .up-as-bytes .ensures)
     (λ c. search needs) (λ c. search needs)
     returns-3
     (λ c. search needs) (λ c. search needs)
-    returns-4)
+    returns-4
+    (λ c. search needs) (λ c. search needs)
+    (λ c. c .before .before .before .before .only-as-bytes .ensures))

@@ -1,4 +1,4 @@
--- `filter::up_as_bytes` meets its contract: the run reads no more words than it is given, and sends no more than its
+-- `program::up_as_bytes` meets its contract: the run reads no more words than it is given, and sends no more than its
 -- output holds. Assumes nothing.
 use Prim.Native.Nat.{_≤_}
 use native.Mathlib.Omega.{arith}
@@ -6,8 +6,8 @@ use borrow.Author.Needs.{needs}
 use denote.Ref.{now}
 use lib.ListN.{length}
 use Rattle.flow.proofs.BoundLaws.{up-bounds}
-use Rattle.filter.proofs.up_as_bytes.Statement.{statement}
-use Rattle.filter.proofs.up_as_bytes.Tie as tie
+use Rattle.program.proofs.up_as_bytes.Statement.{statement}
+use Rattle.program.proofs.up_as_bytes.Tie as tie
 
 abbrev entry : tie.After-up-some → tie.Start
 entry c = c .before .before .before .before .before

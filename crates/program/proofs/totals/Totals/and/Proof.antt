@@ -1,8 +1,8 @@
--- `filter::totals::Totals::and` is safe and ends: the index stays below the number of counts. Assumes nothing.
+-- `program::totals::Totals::and` is safe and ends: the index stays below the number of counts. Assumes nothing.
 use Prim.Native.Nat.{_-_, _≤_}
 use native.Mathlib.Omega.{arith}
-use Rattle.filter.proofs.totals.Totals.and.Statement.{statement}
-use Rattle.filter.proofs.totals.Totals.and.Tie as tie
+use Rattle.program.proofs.totals.Totals.and.Statement.{statement}
+use Rattle.program.proofs.totals.Totals.and.Tie as tie
 
 abbrev Inv-loop : tie.InvT-loop
 Inv-loop self done more counts₀ i₀ counts i = i ≤ 15

@@ -1,11 +1,11 @@
--- `filter::sent_as_bytes` meets its contract: the bytes of the words fit in the text. Assumes nothing.
+-- `program::sent_as_bytes` meets its contract: the bytes of the words fit in the text. Assumes nothing.
 use mathlib.Core.Path.{refl, sym}
 use native.Mathlib.Omega.{arith}
 use borrow.Author.Needs.{needs}
 use lib.Seq.{length-take-le}
-use Rattle.filter.proofs.BufferLaws.{bytes-most}
-use Rattle.filter.proofs.sent_as_bytes.Statement.{statement}
-use Rattle.filter.proofs.sent_as_bytes.Tie as tie
+use Rattle.program.proofs.Bounds.{bytes-most}
+use Rattle.program.proofs.sent_as_bytes.Statement.{statement}
+use Rattle.program.proofs.sent_as_bytes.Tie as tie
 
 returns : tie.Need-returns
 returns c =

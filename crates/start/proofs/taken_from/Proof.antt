@@ -1,18 +1,18 @@
--- `start::taken` is safe and ends. The loop's invariant: the program itself was passed over. The measure is
+-- `start::taken_from` is safe and ends. The loop's invariant: what stands before was passed over. The measure is
 -- the arguments to come. Assumes nothing.
 use Prim.Native.Nat.{_-_, _≤_}
 use borrow.Author.Needs.{needs}
-use Rattle.start.proofs.taken.Statement.{statement}
-use Rattle.start.proofs.taken.Tie as tie
+use Rattle.start.proofs.taken_from.Statement.{statement}
+use Rattle.start.proofs.taken_from.Tie as tie
 
 abbrev Inv-loop : tie.InvT-loop
-Inv-loop name takes n s₀ i₀ s i = 1 ≤ i
+Inv-loop name takes from n s₀ i₀ s i = from ≤ i
 
 abbrev μ-loop : tie.MeasureT-loop
-μ-loop name takes n s₀ i₀ s i = n - i
+μ-loop name takes from n s₀ i₀ s i = n - i
 
-pub taken-spec : {M : Type 1} → statement M
-taken-spec =
+pub taken-from-spec : {M : Type 1} → statement M
+taken-from-spec =
     tie.close
     (tie.spec
     Inv-loop

@@ -3,14 +3,14 @@ use flow::SORTS;
 use stream::Done;
 
 // The words read and written in all, and how often each sort of packet came, at its number.
-pub(crate) struct Totals {
-    pub(crate) read: u64,
-    pub(crate) written: u64,
-    pub(crate) counts: [u64; SORTS],
+pub struct Totals {
+    pub read: u64,
+    pub written: u64,
+    pub counts: [u64; SORTS],
 }
 
 impl Totals {
-    pub(crate) fn zero() -> Totals {
+    pub fn zero() -> Totals {
         Totals {
             read: 0,
             written: 0,
@@ -19,7 +19,7 @@ impl Totals {
     }
 
     // With what another buffer came to.
-    pub(crate) fn and(self, done: Done, more: [u64; SORTS]) -> Totals {
+    pub fn and(self, done: Done, more: [u64; SORTS]) -> Totals {
         let mut counts = self.counts;
         let mut i = 0;
         while i < SORTS {
