@@ -56,8 +56,8 @@ Stops = Does (λ _. ⊥) (λ _. Unit {0})
 abbrev Goes : {T : Type 0} → Call T → Type 0
 Goes = Does (λ _. Unit {0}) (λ _. ⊥)
 
-short-stops : {T : Type 0} (act : List ℕ → Call T) → ((w : ℕ) (s : List ℕ) → Inside (w ∷ s) (act (w ∷ s))) → (p : List ℕ)
-    → Short p → Stops (act p)
+short-stops : {T : Type 0} (act : List ℕ → Call T) → ((w : ℕ) (s : List ℕ) → Inside (w ∷ s) (act (w ∷ s)))
+    → (p : List ℕ) → Short p → Stops (act p)
 short-stops act inside [] h = absurd h
 short-stops {T} act inside (w ∷ s) h = go (act (w ∷ s)) (inside w s)
   where
@@ -129,7 +129,8 @@ module _ (group channel : ℕ) (hg : group ≤ 15) (hc : channel ≤ 15) where
           getD-set-other t (placeOf (first p)) k r empty (other-place group channel hg hc (first p) off)
 
   -- the channel's own packet goes by its record alone
-  by-own : (t : List Record) (p : List ℕ) (r : Record) → Fine t → mine p ≡ true → on t ≡ r → tableUp t p ≡ stored t k (callUp r p)
+  by-own : (t : List Record) (p : List ℕ) (r : Record) → Fine t → mine p ≡ true → on t ≡ r
+      → tableUp t p ≡ stored t k (callUp r p)
   by-own t p r f m e =
       let here = own-place group channel hg hc (first p) (and-right (eqb (messageType (first p)) voice1) _ m) in
       table-at false p t 0 (f .whole) ∙ rw (← here, e)
@@ -150,7 +151,8 @@ module _ (group channel : ℕ) (hg : group ≤ 15) (hc : channel ≤ 15) where
   together : (ps : List (List ℕ)) (t u : List Record) → Tidy ps → Fine t → Fine u → on t ≡ on u → Together ps t u
   unfolding run calls wordsOn packetsOn
   together [] t u d f g e = (refl, e)
-  together (p ∷ ps) t u (inr d) f g e = rw (d .1) (go (tableUp t p) refl (short-stops (tableUp t) (table-inside false t) p (d .0)))
+  together (p ∷ ps) t u (inr d) f g e =
+      rw (d .1) (go (tableUp t p) refl (short-stops (tableUp t) (table-inside false t) p (d .0)))
     where
       go : (c : Call (List Record)) → tableUp t p ≡ c → Stops c → Together (p ∷ []) t u
       go (went a ws v) z h = absurd h
@@ -169,7 +171,8 @@ module _ (group channel : ℕ) (hg : group ≤ 15) (hc : channel ≤ 15) where
               let low : k < wholeTable = omega (arith, hg, hc) in
               let both : on (set t k r) ≡ on (set u k r) =
               getD-set-same t k r empty (rw (f .whole) low) ∙ sym (getD-set-same u k r empty (rw (g .whole) low)) in
-              let i = next (set t k r) (set u k r) (stays-fine t (set t k r) p a ws f y) (stays-fine u (set u k r) p a ws g z) both in
+              let i = next (set t k r) (set u k r) (stays-fine t (set t k r) p a ws f y)
+              (stays-fine u (set u k r) p a ws g z) both in
               rw (m, y, z) (ap (_++_ ws) (i .0), i .1)
           go (stopped a) y z = rw (m, y, z) (refl, e)
 
@@ -257,7 +260,8 @@ module _ (group channel : ℕ) (hg : group ≤ 15) (hc : channel ≤ 15) where
       go : (c : Call T) → step t p ≡ c
           → ((n : ℕ) (u : T) → Roomed (run (within step) (n, u) ps)
           → wordsOn group channel (calls (within step) (n, u) ps) ≡ wordsOn group channel (calls step u ps))
-          → wordsOn group channel (calls (within step) (room, t) (p ∷ ps)) ≡ wordsOn group channel (calls step t (p ∷ ps))
+          → wordsOn group channel (calls (within step) (room, t) (p ∷ ps))
+          ≡ wordsOn group channel (calls step t (p ∷ ps))
       go (stopped a) e ih = rw e
       go (went a ws u) e ih =
           by-bool (leb (length ws) room)
@@ -278,7 +282,8 @@ module _ (group channel : ℕ) (hg : group ≤ 15) (hc : channel ≤ 15) where
     abbrev outcome : List (List ℕ) → Outcome
     outcome ps = record { words = run tableUp t ps .sends; left = on (run tableUp t ps .left) }
 
-    of-own : (room : ℕ) (s : List ℕ) → Roomed (runUp room t s) → outcomeOn group channel room t s ≡ outcome (own (cut s))
+    of-own : (room : ℕ) (s : List ℕ) → Roomed (runUp room t s)
+        → outcomeOn group channel room t s ≡ outcome (own (cut s))
     of-own room s h =
         let e = proved-packet-by-packet .run-up room t s (f .whole) in
         let z = together (cut s) t t (cut-tidy s) f f refl in
@@ -341,7 +346,8 @@ module _ (group channel : ℕ) (hg : group ≤ 15) (hc : channel ≤ 15) where
         same = same t f;
         places = λ ps p q rest a a′ h i j z x x′.
             by-packets t f (joined ps ++ (p ++ (q ++ rest))) (joined ps ++ (q ++ (p ++ rest))) a a′ x x′
-            (ap own (cut-two ps p q rest h i j) ∙ swapped ps (cut rest) p q z ∙ sym (ap own (cut-two ps q p rest h j i)));
+            (ap own (cut-two ps p q rest h i j) ∙ swapped ps (cut rest) p q z
+            ∙ sym (ap own (cut-two ps q p rest h j i)));
       }
 
 pub proved-one-pupil : OnePupil

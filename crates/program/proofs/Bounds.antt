@@ -1,4 +1,4 @@
--- The bytes of some words fit in their text, and one channel's packets are no more than the words and fit in their output.
+-- The bytes of some words fit in their text; one channel's packets are no more than the words, and fit in their output.
 -- Assumes nothing.
 use Prim.Native.Nat.{ℕ, _/_, _≤_}
 use mathlib.Core.Path.{_≡_}

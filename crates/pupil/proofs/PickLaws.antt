@@ -36,7 +36,8 @@ pub one-word : (group channel : ℕ) (s : List ℕ) → voiceOn group channel (f
 unfolding packet
 one-word group channel [] h = not-both h
 one-word group channel (w ∷ s) h =
-    ⊎-elim (λ z. not-both (rw z at h)) (λ e. go (packet (w ∷ s)) (size w) refl (size-range w) (e .0) h) (packet-size w s)
+    ⊎-elim (λ z. not-both (rw z at h)) (λ e. go (packet (w ∷ s)) (size w) refl (size-range w) (e .0) h)
+    (packet-size w s)
   where
     go : (p : List ℕ) (n : ℕ) → size w ≡ n → (1 ≤ n) × (n ≤ 4) → p ≡ take n (w ∷ s)
         → voiceOn group channel (first p) ≡ true → p ≡ first p ∷ []
@@ -48,7 +49,8 @@ one-word group channel (w ∷ s) h =
         rw (e, one)
 
 module _ (group channel : ℕ) where
-  pub pick-near : (t : Unit {0}) (w : ℕ) (s : List ℕ) → pick group channel t (take (size w) (w ∷ s)) ≡ pick group channel t (w ∷ s)
+  pub pick-near : (t : Unit {0}) (w : ℕ) (s : List ℕ)
+      → pick group channel t (take (size w) (w ∷ s)) ≡ pick group channel t (w ∷ s)
   unfolding pick
   pick-near t w s = rw (packet-near w s)
 
@@ -63,10 +65,13 @@ module _ (group channel : ℕ) where
 -- a word that is handed back, and one that has no room
 module _ (d : Done) (w : ℕ) (out : List ℕ) where
   abbrev Handed : Done → List ℕ → Type 0
-  Handed r after = (r ≡ further d (w ∷ []) (handedAt w d out)) × (after ≡ written (d .written) (sentOf (handedAt w d out)) out)
+  Handed r after =
+      let c = handedAt w d out in
+      (r ≡ further d (w ∷ []) c) × (after ≡ written (d .written) (sentOf c) out)
 
   pub handed : d .written < length out → Handed (counting sent (d .read + 1) (d .written + 1)) (set out (d .written) w)
-  handed h = rw (le-leb 1 (length out - d .written) (omega arith)) (refl, sets-eq (w ∷ []) out (d .written) (omega arith))
+  handed h =
+      rw (le-leb 1 (length out - d .written) (omega arith)) (refl, sets-eq (w ∷ []) out (d .written) (omega arith))
 
   pub no-room : length out ≤ d .written → Handed (counting noRoom (d .read) (d .written)) out
   no-room h =
@@ -83,7 +88,8 @@ module _ (group channel : ℕ) (d : Done) (p out : List ℕ) where
   pub at-cut : length p ≡ 0 → At (counting cutPacket (d .read) (d .written)) out
   at-cut e = rw e (rw (add-zero (d .read), add-zero (d .written)), sym (written-none (d .written) out))
 
-  pub at-own : (w : ℕ) (r : Done) (after : List ℕ) → p ≡ w ∷ [] → voiceOn group channel w ≡ true → Handed d w out r after → At r after
+  pub at-own : (w : ℕ) (r : Done) (after : List ℕ) → p ≡ w ∷ [] → voiceOn group channel w ≡ true
+      → Handed d w out r after → At r after
   at-own w r after e v h = rw (e, v) h
 
   pub at-other : (length p ≡ 0 → ⊥) → voiceOn group channel (first p) ≡ false

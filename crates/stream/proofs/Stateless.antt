@@ -37,8 +37,11 @@ module _
           let m = length (sentOf c) in
           let er : r .read ≡ i + k = ap (λ (x : Done). x .read) e in
           let ew : r .written ≡ n + m = ap (λ (x : Done). x .written) e in
+          let ea = ap (λ (x : Done). x .answer) e in
           let t = turn step near inside tt ws out₀ tt out i n (r .answer) k m tt after inv h
-          (record { answers = ap (λ (x : Done). x .answer) e; reads = refl; writes = refl; leaves = refl; holds = f }) in (
+          (record { answers = ea; reads = refl; writes = refl; leaves = refl; holds = f }) in (
             λ z. let x = t .0 (λ q. z (er ∙ omega (arith, q))) in (rw (er, ew) (x .0), omega (arith, er, x .1)),
-            λ z. let x = t .1 (omega (arith, er, z)) in let y : r .written ≡ n = omega (arith, ew, x .1) in rw (z, y) (x .0),
+            λ z. let x = t .1 (omega (arith, er, z)) in
+                let y : r .written ≡ n = omega (arith, ew, x .1) in
+                rw (z, y) (x .0),
           )

@@ -1,5 +1,5 @@
--- `program::only_as_bytes` meets its contract: no more words are read than it is given, and no more handed back than its
--- output holds. Assumes nothing.
+-- `program::only_as_bytes` meets its contract: no more words are read than it is given, and no more handed back than
+-- its output holds. Assumes nothing.
 use Prim.Native.Nat.{_≤_}
 use native.Mathlib.Omega.{arith}
 use borrow.Author.Needs.{needs}

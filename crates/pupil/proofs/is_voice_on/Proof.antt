@@ -7,4 +7,5 @@ pub is-voice-on-spec : {M : Type 1} → statement M
 is-voice-on-spec =
     tie.close
     (tie.spec (λ c κs. search needs) (λ c κs. search needs) (λ c κs. search needs)
-    (λ c. rw (c .before .before .message-type .ensures, c .before .before .before .channel-of .ensures, c .before .before .before .before .group-of .ensures)))
+    (λ c. let b = c .before .before in
+    rw (b .message-type .ensures, b .before .channel-of .ensures, b .before .before .group-of .ensures)))

@@ -8,7 +8,8 @@ use Rattle.pupil.proofs.only.Tie as tie
 returns : tie.Need-returns
 unfolding Only.only
 returns c =
-    rw (sym (c .before .before .before .before .before .is-in-range .ensures) ∙ c .before .before .before .before .if1 .taken)
+    let b = c .before .before .before .before in
+    rw (sym (b .before .is-in-range .ensures) ∙ b .if1 .taken)
     (c .before .before .run-only .ensures)
 
 returns-2 : tie.Need-returns-2
@@ -18,4 +19,6 @@ returns-2 c = rw (sym (c .before .before .is-in-range .ensures) ∙ c .before .i
 pub only-spec : {M : Type 1} → statement M
 only-spec =
     tie.close
-    (tie.spec (λ c κs. search needs) (λ c κs. search needs) (λ c κs. search needs) (λ c. search needs) returns returns-2)
+    (tie.spec (λ c κs. search needs) (λ c κs. search needs) (λ c κs. search needs) (λ c. search needs)
+    returns
+    returns-2)

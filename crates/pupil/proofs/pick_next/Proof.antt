@@ -51,14 +51,17 @@ add-report c =
 returns-2 : tie.Need-returns-2
 unfolding pick within
 returns-2 c =
-    let a = c .before .before .before .before .before .before .before .before .before .before .before .args in
+    let b = c .before .before .before .before in
+    let a = b .before .before .before .before .before .before .before .args in
     let p = c .before .before .before .before .before .before .before .before .packet-at in
     let q = now (p .result) in
     let v : voiceOn (a .group) (a .channel) (first q) ≡ true =
-    sym (c .before .before .before .before .before .is-voice-on .ensures) ∙ c .before .before .before .before .if2 .taken in
-    let one : q ≡ first q ∷ [] = rw (p .ensures) (one-word (a .group) (a .channel) (drop (a .past .read) (now (a .words))) (rw (p .ensures) at v)) in
+    sym (b .before .is-voice-on .ensures) ∙ b .if2 .taken in
+    let one : q ≡ first q ∷ [] =
+    rw (p .ensures) (one-word (a .group) (a .channel) (drop (a .past .read) (now (a .words))) (rw (p .ensures) at v)) in
     rw (← p .ensures)
-    (at-own (a .group) (a .channel) (a .past) q (now (a .out)) (first q) _ _ one v (c .before .before .hand-back .ensures))
+    (at-own (a .group) (a .channel) (a .past) q (now (a .out)) (first q) _ _ one v
+    (c .before .before .hand-back .ensures))
 
 returns-3 : tie.Need-returns-3
 unfolding pick within
@@ -68,7 +71,8 @@ returns-3 c =
     let q = now (p .result) in
     let v : voiceOn (a .group) (a .channel) (first q) ≡ false =
     sym (c .before .before .is-voice-on .ensures) ∙ c .before .if2 .left in
-    let z = at-other (a .group) (a .channel) (a .past) q (now (a .out)) (c .before .before .before .before .if1 .left) v in
+    let n = c .before .before .before .before .if1 .left in
+    let z = at-other (a .group) (a .channel) (a .past) q (now (a .out)) n v in
     rw (← p .ensures) (c .report2 .ensures ∙ z .0, z .1)
 
 pub pick-next-spec : {M : Type 1} → statement M

@@ -1,5 +1,5 @@
--- `pupil::run_only` meets its contract. The loop's invariant: what was done, and then the run from here, is the whole run.
--- The measure is the words left. Assumes nothing.
+-- `pupil::run_only` meets its contract. The loop's invariant: what was done, and then the run from here, is the whole
+-- run. The measure is the words left. Assumes nothing.
 use Prim.Native.Nat.{_-_}
 use mathlib.Core.Path.{_∙_}
 use native.Mathlib.Omega.{arith}
@@ -22,31 +22,50 @@ abbrev μ-loop : tie.MeasureT-loop
 returns : tie.Need-returns Inv-loop μ-loop
 returns c =
     let a = c .before .before .before .before .before .before .before .before .before .before .before .before .args in
+    let g = a .group in
+    let k = a .channel in
     let l = c .before .before .before .before .before .before .before .before .before .loop in
-    let e = rw (c .before .before .before .before .before .before .before .report .ensures) at (c .before .before .before .before .before .pick-next .ensures) in
-    let z = one-more (pick (a .group) (a .channel)) (pick-near (a .group) (a .channel)) (pick-inside (a .group) (a .channel)) (now (a .words)) (now (a .out)) (l .out) (l .read) (l .written) (l .inv) (c .before .before .before .before .before .before .before .before .loop-test .taken) _ _ (e .0) (e .1) .1 (c .before .if1 .taken) in
+    let e = rw (c .before .before .before .before .before .before .before .report .ensures)
+    at (c .before .before .before .before .before .pick-next .ensures) in
+    let z = one-more (pick g k) (pick-near g k) (pick-inside g k) (now (a .words)) (now (a .out)) (l .out) (l .read)
+    (l .written) (l .inv)
+    (c .before .before .before .before .before .before .before .before .loop-test .taken) _ _ (e .0) (e .1) .1 (c .before .if1 .taken) in
     (c .report2 .ensures ∙ rw (c .before .if1 .taken) at (reports z), z .holds)
 
 loop-less : tie.Need-loop-less Inv-loop μ-loop
 loop-less c =
     let a = c .before .before .before .before .before .before .before .before .before .before .before .args in
+    let g = a .group in
+    let k = a .channel in
     let l = c .before .before .before .before .before .before .before .before .loop in
-    let e = rw (c .before .before .before .before .before .before .report .ensures) at (c .before .before .before .before .pick-next .ensures) in
-    let z = one-more (pick (a .group) (a .channel)) (pick-near (a .group) (a .channel)) (pick-inside (a .group) (a .channel)) (now (a .words)) (now (a .out)) (l .out) (l .read) (l .written) (l .inv) (c .before .before .before .before .before .before .before .loop-test .taken) _ _ (e .0) (e .1) .0 (c .if1 .left) in
+    let e = rw (c .before .before .before .before .before .before .report .ensures)
+    at (c .before .before .before .before .pick-next .ensures) in
+    let z = one-more (pick g k) (pick-near g k) (pick-inside g k) (now (a .words)) (now (a .out)) (l .out) (l .read)
+    (l .written) (l .inv)
+    (c .before .before .before .before .before .before .before .loop-test .taken) _ _ (e .0) (e .1) .0 (c .if1 .left) in
     omega (arith, z .0 .read, z .1)
 
 loop-again : tie.Need-loop-again Inv-loop μ-loop
 loop-again c =
     let a = c .before .before .before .before .before .before .before .before .before .before .before .args in
+    let g = a .group in
+    let k = a .channel in
     let l = c .before .before .before .before .before .before .before .before .loop in
-    let e = rw (c .before .before .before .before .before .before .report .ensures) at (c .before .before .before .before .pick-next .ensures) in
-    one-more (pick (a .group) (a .channel)) (pick-near (a .group) (a .channel)) (pick-inside (a .group) (a .channel)) (now (a .words)) (now (a .out)) (l .out) (l .read) (l .written) (l .inv) (c .before .before .before .before .before .before .before .loop-test .taken) _ _ (e .0) (e .1) .0 (c .if1 .left) .0
+    let e = rw (c .before .before .before .before .before .before .report .ensures)
+    at (c .before .before .before .before .pick-next .ensures) in
+    one-more (pick g k) (pick-near g k) (pick-inside g k) (now (a .words)) (now (a .out)) (l .out) (l .read)
+    (l .written) (l .inv)
+    (c .before .before .before .before .before .before .before .loop-test .taken) _ _ (e .0) (e .1) .0 (c .if1 .left) .0
 
 returns-2 : tie.Need-returns-2 Inv-loop μ-loop
 returns-2 c =
     let a = c .before .before .before .before .before .args in
+    let g = a .group in
+    let k = a .channel in
     let l = c .before .before .loop in
-    let z = finish (pick (a .group) (a .channel)) (pick-near (a .group) (a .channel)) (pick-inside (a .group) (a .channel)) tt (now (a .words)) (now (a .out)) tt (l .out) (l .read) (l .written) (l .inv) (c .before .loop-test .left) in
+    let z = finish (pick g k) (pick-near g k) (pick-inside g k) tt (now (a .words)) (now (a .out)) tt (l .out) (l .read)
+    (l .written) (l .inv)
+    (c .before .loop-test .left) in
     (c .report3 .ensures ∙ reports z, z .holds)
 
 pub run-only-spec : {M : Type 1} → statement M
