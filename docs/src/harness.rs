@@ -1,11 +1,12 @@
-//! Holds single calls, runs, lessons, questions and marks of the product's static library to the
-//! reading, or times both.
+//! Holds single calls, runs, lessons, replays, questions and marks of the product's static library
+//! to the reading, or times both.
 //! Usage: harness [CASES] with the number of random cases, which follow two million swept ones and
-//! come before half as many random lessons;
+//! come before half as many random lessons and half as many random replays;
 //! or: harness time
 
 mod entries;
 mod packets;
+mod replays;
 mod tally;
 mod timing;
 
@@ -18,6 +19,7 @@ use reading::{
     empty, keys_down, mark_coarse, size, Done, Keys, Record, COARSE, FINE, MISSING, OUTPUT_SHORT,
     SENT, TAKEN_IN,
 };
+use replays::Replays;
 use tally::{Asked, KeyVoices, Lessons, Marks, LONGEST_COARSE};
 
 #[link(name = "quernbrae", kind = "static")]
@@ -51,6 +53,14 @@ extern "C" {
         words_len: usize,
         coarse: *const u16,
         coarse_len: usize,
+        out: *mut u32,
+        out_len: usize,
+    ) -> Done;
+    fn quernbrae_only(
+        words: *const u32,
+        words_len: usize,
+        group: u8,
+        channel: u8,
         out: *mut u32,
         out_len: usize,
     ) -> Done;
@@ -91,31 +101,34 @@ enum Function {
     Down,
     RunDown,
     Lesson,
+    Only,
 }
 
-use Function::{Down, Lesson, RunDown, RunUp, Up};
+use Function::{Down, Lesson, Only, RunDown, RunUp, Up};
 
 /// The functions, each with the answers that can occur in it.
-const FUNCTIONS: [(Function, &[usize]); 5] = [
+const FUNCTIONS: [(Function, &[usize]); 6] = [
     (Up, &[0, 1, 3, 4, 5, 6, 7, 8, 9, 10]),
     (RunUp, &[0, 3, 8, 9, 10]),
     (Down, &[0, 2, 3, 4, 5, 6, 7, 9]),
     (RunDown, &[0, 3, 9]),
     (Lesson, &[0, 3, 9]),
+    (Only, &replays::ANSWERS),
 ];
 
 impl Function {
+    /// It looks at MIDI 1.0 voices.
     fn goes_up(self) -> bool {
-        matches!(self, Up | RunUp | Lesson)
+        matches!(self, Up | RunUp | Lesson | Only)
     }
 
     fn runs(self) -> bool {
-        matches!(self, RunUp | RunDown | Lesson)
+        matches!(self, RunUp | RunDown | Lesson | Only)
     }
 
     /// A lesson's table is gone when it ends.
     fn can_be_taken_up_again(self) -> bool {
-        matches!(self, RunUp | RunDown)
+        matches!(self, RunUp | RunDown | Only)
     }
 
     /// The types with checked fields that are not of the wrong protocol.
@@ -145,6 +158,8 @@ struct Lent {
     table_len: usize,
     coarse: [u16; COARSE_SPACE],
     coarse_len: usize,
+    /// The group and the channel of a replay.
+    place: [u8; 2],
     out: Vec<u32>,
     room: usize,
 }
@@ -160,6 +175,7 @@ impl Lent {
             table_len: 256,
             coarse: [0; COARSE_SPACE],
             coarse_len: 0,
+            place: [0; 2],
             out,
             room: 0,
         }
@@ -172,6 +188,7 @@ impl Lent {
         self.table_len = other.table_len;
         self.coarse = other.coarse;
         self.coarse_len = other.coarse_len;
+        self.place = other.place;
         self.out.clone_from(&other.out);
         self.room = other.room;
     }
@@ -197,6 +214,7 @@ impl Lent {
             Down => reading::down(words, out),
             RunDown => reading::run_down(words, out),
             Lesson => reading::lesson(words, &self.coarse[..self.coarse_len], out),
+            Only => reading::only(words, self.place[0], self.place[1], out),
         }
     }
 
@@ -216,6 +234,7 @@ impl Lent {
         let (table, table_len) = (self.table.as_mut_ptr(), self.table_len);
         let (coarse, coarse_len) = (self.coarse.as_ptr(), self.coarse_len);
         let words_len = self.words_len - read;
+        let [group, channel] = self.place;
         // The lent parts lie within what is kept, as asserted.
         unsafe {
             let words = self.words.as_ptr().add(read);
@@ -226,6 +245,7 @@ impl Lent {
                 Down => quernbrae_down(words, words_len, out, room),
                 RunDown => quernbrae_run_down(words, words_len, out, room),
                 Lesson => quernbrae_lesson(words, words_len, coarse, coarse_len, out, room),
+                Only => quernbrae_only(words, words_len, group, channel, out, room),
             }
         }
     }
@@ -262,13 +282,14 @@ struct Comparison {
     reading: Lent,
     cases: usize,
     taken_up_again: usize,
-    seen: [[usize; 11]; FUNCTIONS.len()],
+    seen: [[usize; 25]; FUNCTIONS.len()],
     named: [Named; FUNCTIONS.len()],
     key_voices: KeyVoices,
     entries: Entries,
     asked: Asked,
     marks: Marks,
     lessons: Lessons,
+    replays: Replays,
 }
 
 impl Comparison {
@@ -280,13 +301,14 @@ impl Comparison {
             reading: Lent::new(),
             cases: 0,
             taken_up_again: 0,
-            seen: [[0; 11]; FUNCTIONS.len()],
+            seen: [[0; 25]; FUNCTIONS.len()],
             named: [(); FUNCTIONS.len()].map(|_| Named::new()),
             key_voices: KeyVoices::new(),
             entries: Entries::new(),
             asked: Asked::new(),
             marks: Marks::new(),
             lessons: Lessons::new(),
+            replays: Replays::new(),
         }
     }
 
@@ -427,6 +449,7 @@ impl Comparison {
         println!("words: {}, first {:08X?}", case.words_len, first_words);
         println!("records: {}, room: {}", case.table_len, case.room);
         println!("coarse: {:04X?}", &case.coarse[..case.coarse_len]);
+        println!("group and channel: {:?}", case.place);
         println!("first packet's record: {:?}", case.table[case.own()]);
         println!("product: {:?}\nreading: {:?}", done, expected);
         show_difference("output", &case.out, &product.out, &reading.out);
@@ -470,6 +493,8 @@ impl Comparison {
             self.single(Up, packet);
             self.single(Down, packet);
             self.single(Lesson, packet);
+            self.case.place = self.place_near(packet[0]);
+            self.single(Only, packet);
         }
     }
 
@@ -734,6 +759,105 @@ impl Comparison {
         }
         self.lesson();
     }
+}
+
+/// One channel's packets alone.
+impl Comparison {
+    /// Compares a replay, and counts the packets that it met.
+    fn replay(&mut self) {
+        self.compare(Only);
+        let read = self.reading.reading(Only).read;
+        self.replays
+            .count(&self.case.words[..read], self.case.place);
+    }
+
+    /// The place of a packet, or one that shares its group or its channel.
+    fn place_near(&mut self, first: u32) -> [u8; 2] {
+        let [group, channel] = group_and_channel(record_number(first));
+        let other = self.dice.below(16) as u8;
+        match self.dice.below(4) {
+            0 => [group, other],
+            1 => [other, channel],
+            _ => [group, channel],
+        }
+    }
+
+    /// Every group with every channel, over packets of every type and status on every channel.
+    fn every_channel_alone(&mut self) {
+        self.case.words.clear();
+        for number in 0..256 {
+            let head = (self.dice.below(16) as u32) << 20 | place_of(number);
+            let [data, second] = [(); 2].map(|_| self.dice.word());
+            let voice = 0x2000_0000 | head;
+            self.case
+                .words
+                .extend([voice | data & 0x7F7F, voice | data & 0xFFFF]);
+            let other = (self.dice.below(16) as u32) << 28 | head | data & 0xFFFF;
+            let packet = [other, voice, second, voice];
+            self.case.words.extend(&packet[..size(other)]);
+        }
+        self.case.words_len = self.case.words.len();
+        for group in 0..=255 {
+            for channel in 0..=255 {
+                self.case.place = [group, channel];
+                let (room, filler) = (self.dice.below(5), self.dice.word());
+                self.case.set_room(room, filler);
+                self.replay();
+            }
+        }
+    }
+
+    /// Any stream and room, and mostly a channel that has packets in it.
+    fn random_replay(&mut self, pool: &Pool) {
+        throw_words(&mut self.dice, Only, &mut self.case);
+        self.throw_room();
+        let any = self.dice.below(self.case.words.len());
+        self.case.place = match self.dice.below(8) {
+            0 => [(); 2].map(|_| self.dice.pick(&EDGE_PLACES)),
+            1 => [0, 1],
+            2 => [15, 15],
+            _ => self.place_near(self.case.words[any]),
+        };
+        self.replay();
+        if self.dice.one_in(8) {
+            self.replay_is_fair(pool);
+        }
+    }
+
+    /// From a sound table, what the product hands back sends in a run what its calls send for the
+    /// channel over the whole stream, and leaves the same record.
+    fn replay_is_fair(&mut self, pool: &Pool) {
+        let [group, channel] = self.case.place.map(|number| number % 16);
+        let number = 16 * usize::from(group) + usize::from(channel);
+        cut_table(&mut self.dice, &pool.sound, &mut self.case.table);
+        let start: Vec<Record> = self.case.table[..256].to_vec();
+        let words = &self.case.words[..self.case.words_len];
+        let (heard, record) = product_heard(words, &mut start.clone(), number);
+        let mut own = vec![0; words.len()];
+        let handed = product_only(words, [group, channel], &mut own);
+        let (mut out, mut table) = (vec![0; 2 * words.len()], start);
+        let done = product_run_up(&own[..handed.written], &mut table, &mut out);
+        assert_eq!(out[..done.written], heard, "a replay sends other words");
+        assert_eq!(table[number], record, "a replay leaves another record");
+        self.replays.count_fair();
+    }
+}
+
+/// What the product's calls send for the voices of a channel, and its record behind them.
+fn product_heard(words: &[u32], table: &mut [Record], number: usize) -> (Vec<u32>, Record) {
+    let (mut heard, mut place) = (vec![], 0);
+    while let Some(rest @ [first, ..]) = words.get(place..) {
+        if rest.len() < size(*first) {
+            break;
+        }
+        let mut out = [0; 4];
+        let done = product_run_up(&rest[..size(*first)], table, &mut out);
+        if first >> 28 == 2 && record_number(*first) == number {
+            heard.extend(&out[..done.written]);
+        }
+        place += size(*first);
+    }
+    (heard, table[number])
 }
 
 /// A list of marks of any length, and what stands behind it.
@@ -1033,7 +1157,7 @@ impl Comparison {
         complete &= self.key_voices.summary();
         complete &= self.entries.summary("Up", &[SENT, TAKEN_IN, OUTPUT_SHORT]);
         complete &= self.asked.summary() & self.marks.summary();
-        complete &= self.lessons.summary();
+        complete &= self.lessons.summary() & self.replays.summary();
         if !complete {
             println!("something that can occur was never seen");
             std::process::exit(1);
@@ -1050,6 +1174,21 @@ fn product_run_up(words: &[u32], table: &mut [Record], out: &mut [u32]) -> Done 
             words.len(),
             table,
             table_len,
+            out.as_mut_ptr(),
+            out.len(),
+        )
+    }
+}
+
+fn product_only(words: &[u32], [group, channel]: [u8; 2], out: &mut [u32]) -> Done {
+    let (words, words_len) = (words.as_ptr(), words.len());
+    // Pointers and lengths come from slices.
+    unsafe {
+        quernbrae_only(
+            words,
+            words_len,
+            group,
+            channel,
             out.as_mut_ptr(),
             out.len(),
         )
@@ -1100,6 +1239,7 @@ fn compare_all(random_cases: usize) {
     comparison.every_channel_marked();
     comparison.every_mark();
     comparison.every_mark_of_a_lesson();
+    comparison.every_channel_alone();
     let pool = Pool::new(&mut comparison.dice);
     for _ in 0..random_cases {
         comparison.random(&pool);
@@ -1109,6 +1249,7 @@ fn compare_all(random_cases: usize) {
     }
     for _ in 0..random_cases / 2 {
         comparison.random_lesson();
+        comparison.random_replay(&pool);
     }
     comparison.summary();
 }

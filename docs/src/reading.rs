@@ -2,9 +2,12 @@
 //! Read from the build specification, the requests that amend it, and M2-104-UM 1.1.1, sections 7.2
 //! to 7.7 and Appendix D.
 
+mod pupil;
 #[cfg(test)]
 #[path = "reading_tests.rs"]
 mod tests;
+
+pub use pupil::{only, only_filter};
 
 // The answers of a call, by their numbers in the build specification.
 pub const SENT: u32 = 0;
