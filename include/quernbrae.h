@@ -16,7 +16,8 @@
 extern "C" {
 #endif
 
-/* The answers of a call (docs/RULES.md, 3.1). A run gives 0, 3, 8, 9 or 10 (4), a lesson run 0, 3 or 9 (4.2). */
+/* The answers of a call (docs/RULES.md, 3.1). A run gives 0, 3, 8, 9 or 10 (4), a lesson run 0, 3 or 9 (4.2), and the
+ * run for a replay 0, 3, 9 or 24 (11). */
 enum {
     QUERNBRAE_SENT = 0,           /* sent; a run has finished */
     QUERNBRAE_TAKEN_IN = 1,       /* kept in the record at most, so nothing is sent */
@@ -31,7 +32,7 @@ enum {
     QUERNBRAE_NO_TABLE = 10,      /* the table has more or fewer than 256 records */
     QUERNBRAE_NOT_YOURS = 13,     /* of a host: the group is not its own (2.6) */
     QUERNBRAE_NOT_FOR_ROOM = 23,  /* in the beginners' room: good, but not on its list (2.5) */
-    QUERNBRAE_OUT_OF_RANGE = 24   /* a group or a channel above 15, or a group that cannot be given (5.8 to 5.10) */
+    QUERNBRAE_OUT_OF_RANGE = 24   /* no such group, channel or host: of a question, mark, giving or replay (5, 11) */
 };
 
 /* The address kinds of a record (docs/RULES.md, 5.1). */
@@ -119,6 +120,15 @@ quernbrae_done quernbrae_down(const uint32_t *words, size_t words_len,
  * Going down or up, an output twice as long as the words never lacks room (9.3). */
 quernbrae_done quernbrae_run_down(const uint32_t *words, size_t words_len,
                                   uint32_t *out, size_t out_len);
+
+/* One channel's packets alone, for a replay: the MIDI 1.0 voice packets of a group and channel, unchanged and in order,
+ * with those among them that a call up would refuse (docs/RULES.md, 11). All else is passed over. Gives 0, 3 or 9 as a
+ * run does, or 24 first, where nothing is read. An output as long as the words never lacks room. From the same table,
+ * a run up over what is handed back sends what the run over all words sends for the channel, and leaves its record as
+ * that does. */
+quernbrae_done quernbrae_only(const uint32_t *words, size_t words_len,
+                              uint8_t group, uint8_t channel,
+                              uint32_t *out, size_t out_len);
 
 /* How many keys are down on a channel of a group, and the lowest (docs/RULES.md, 5.8). The table is only read. */
 quernbrae_keys quernbrae_keys_down(const quernbrae_record *table, size_t table_len,

@@ -1,12 +1,13 @@
-//! Holds single calls, runs, lessons, questions and marks of the product's static library to the
-//! reading, those in the beginners' room and those of two hosts among them, or times both.
+//! Holds single calls, runs, lessons, replays, questions and marks of the product's static library
+//! to the reading, those in the beginners' room and those of two hosts among them, or times both.
 //! Usage: harness [CASES] with the number of random cases, which follow millions of swept ones and
-//! come before half as many random lessons;
+//! come before half as many random lessons and half as many random replays;
 //! or: harness time
 
 mod entries;
 mod host_sweeps;
 mod packets;
+mod replays;
 mod tally;
 mod timing;
 
@@ -20,6 +21,7 @@ use reading::{
     empty, keys_down, mark_coarse, size, Done, Keys, Record, COARSE, FINE, MISSING, OUTPUT_SHORT,
     SENT, TAKEN_IN,
 };
+use replays::Replays;
 use tally::{Asked, InTheRoom, KeyVoices, Lessons, Marks, LONGEST_COARSE};
 
 #[link(name = "quernbrae", kind = "static")]
@@ -69,6 +71,14 @@ extern "C" {
         words_len: usize,
         coarse: *const u16,
         coarse_len: usize,
+        out: *mut u32,
+        out_len: usize,
+    ) -> Done;
+    fn quernbrae_only(
+        words: *const u32,
+        words_len: usize,
+        group: u8,
+        channel: u8,
         out: *mut u32,
         out_len: usize,
     ) -> Done;
@@ -185,16 +195,17 @@ enum Function {
     HostDown,
     HostRunDown,
     Lesson,
+    Only,
 }
 
 use Function::{
-    BeginnersRunUp, BeginnersUp, Down, HostDown, HostRunDown, HostRunUp, HostUp, Lesson, RunDown,
-    RunUp, Up,
+    BeginnersRunUp, BeginnersUp, Down, HostDown, HostRunDown, HostRunUp, HostUp, Lesson, Only,
+    RunDown, RunUp, Up,
 };
 
-/// The functions, each with the answers that can occur in it. Lessons come last, since their random
-/// cases come by themselves.
-const FUNCTIONS: [(Function, &[usize]); 11] = [
+/// The functions, each with the answers that can occur in it. Lessons and replays come last, since
+/// their random cases come by themselves.
+const FUNCTIONS: [(Function, &[usize]); 12] = [
     (Up, &[0, 1, 3, 4, 5, 6, 7, 8, 9, 10]),
     (RunUp, &[0, 3, 8, 9, 10]),
     (Down, &[0, 2, 3, 4, 5, 6, 7, 9]),
@@ -206,12 +217,14 @@ const FUNCTIONS: [(Function, &[usize]); 11] = [
     (HostDown, &[0, 2, 3, 4, 5, 6, 7, 9, 13]),
     (HostRunDown, &[0, 3, 9]),
     (Lesson, &[0, 3, 9]),
+    (Only, &replays::ANSWERS),
 ];
 
-/// The answers of these functions are below this number.
-const ANSWERS: usize = 24;
+/// The answers of these functions are below this number. A replay has the highest, which is 24.
+const ANSWERS: usize = 25;
 
 impl Function {
+    /// It looks at MIDI 1.0 voices.
     fn goes_up(self) -> bool {
         !matches!(self, Down | RunDown | HostDown | HostRunDown)
     }
@@ -259,6 +272,8 @@ struct Lent {
     host: u8,
     owners: [u8; OWNERS_SPACE],
     owners_len: usize,
+    /// The group and the channel of a replay.
+    place: [u8; 2],
     out: Vec<u32>,
     room: usize,
 }
@@ -277,6 +292,7 @@ impl Lent {
             host: 1,
             owners: [1; OWNERS_SPACE],
             owners_len: 16,
+            place: [0; 2],
             out,
             room: 0,
         }
@@ -292,6 +308,7 @@ impl Lent {
         self.host = other.host;
         self.owners = other.owners;
         self.owners_len = other.owners_len;
+        self.place = other.place;
         self.out.clone_from(&other.out);
         self.room = other.room;
     }
@@ -324,6 +341,7 @@ impl Lent {
             HostDown => reading::host_down(host, owners, words, out),
             HostRunDown => reading::host_run_down(host, owners, words, out),
             Lesson => reading::lesson(words, &self.coarse[..self.coarse_len], out),
+            Only => reading::only(words, self.place[0], self.place[1], out),
         }
     }
 
@@ -344,6 +362,7 @@ impl Lent {
         let (coarse, coarse_len) = (self.coarse.as_ptr(), self.coarse_len);
         let (host, owners, owners_len) = (self.host, self.owners.as_ptr(), self.owners_len);
         let words_len = self.words_len - read;
+        let [group, channel] = self.place;
         // The lent parts lie within what is kept, as asserted.
         unsafe {
             let words = self.words.as_ptr().add(read);
@@ -372,6 +391,7 @@ impl Lent {
                     quernbrae_host_run_down(host, owners, owners_len, words, words_len, out, room)
                 }
                 Lesson => quernbrae_lesson(words, words_len, coarse, coarse_len, out, room),
+                Only => quernbrae_only(words, words_len, group, channel, out, room),
             }
         }
     }
@@ -417,6 +437,7 @@ struct Comparison {
     asked: Asked,
     marks: Marks,
     lessons: Lessons,
+    replays: Replays,
 }
 
 impl Comparison {
@@ -437,6 +458,7 @@ impl Comparison {
             asked: Asked::new(),
             marks: Marks::new(),
             lessons: Lessons::new(),
+            replays: Replays::new(),
         }
     }
 
@@ -587,6 +609,7 @@ impl Comparison {
         println!("coarse: {:04X?}", &case.coarse[..case.coarse_len]);
         let owners = &case.owners[..case.owners_len];
         println!("host: {}, owners: {owners:?}", case.host);
+        println!("group and channel: {:?}", case.place);
         println!("first packet's record: {:?}", case.table[case.own()]);
         println!("product: {:?}\nreading: {:?}", done, expected);
         show_difference("output", &case.out, &product.out, &reading.out);
@@ -616,7 +639,7 @@ impl Comparison {
         self.compare(function);
     }
 
-    /// Every value of bits 31 to 16 of the first word, in both directions and as a lesson.
+    /// Every value of bits 31 to 16 of the first word, in both directions, as a lesson and as a replay.
     fn every_first_word(&mut self) {
         for head in 0..0x1_0000 {
             let keys = throw_keys(&mut self.dice);
@@ -631,6 +654,8 @@ impl Comparison {
             self.single(Up, packet);
             self.single(Down, packet);
             self.single(Lesson, packet);
+            self.case.place = self.place_near(packet[0]);
+            self.single(Only, packet);
         }
     }
 
@@ -922,6 +947,105 @@ impl Comparison {
     }
 }
 
+/// One channel's packets alone.
+impl Comparison {
+    /// Compares a replay, and counts the packets that it met.
+    fn replay(&mut self) {
+        self.compare(Only);
+        let read = self.reading.reading(Only).read;
+        self.replays
+            .count(&self.case.words[..read], self.case.place);
+    }
+
+    /// The place of a packet, or one that shares its group or its channel.
+    fn place_near(&mut self, first: u32) -> [u8; 2] {
+        let [group, channel] = group_and_channel(record_number(first));
+        let other = self.dice.below(16) as u8;
+        match self.dice.below(4) {
+            0 => [group, other],
+            1 => [other, channel],
+            _ => [group, channel],
+        }
+    }
+
+    /// Every group with every channel, over packets of every type and status on every channel.
+    fn every_channel_alone(&mut self) {
+        self.case.words.clear();
+        for number in 0..256 {
+            let head = (self.dice.below(16) as u32) << 20 | place_of(number);
+            let [data, second] = [(); 2].map(|_| self.dice.word());
+            let voice = 0x2000_0000 | head;
+            self.case
+                .words
+                .extend([voice | data & 0x7F7F, voice | data & 0xFFFF]);
+            let other = (self.dice.below(16) as u32) << 28 | head | data & 0xFFFF;
+            let packet = [other, voice, second, voice];
+            self.case.words.extend(&packet[..size(other)]);
+        }
+        self.case.words_len = self.case.words.len();
+        for group in 0..=255 {
+            for channel in 0..=255 {
+                self.case.place = [group, channel];
+                let (room, filler) = (self.dice.below(5), self.dice.word());
+                self.case.set_room(room, filler);
+                self.replay();
+            }
+        }
+    }
+
+    /// Any stream and room, and mostly a channel that has packets in it.
+    fn random_replay(&mut self, pool: &Pool) {
+        throw_words(&mut self.dice, Only, &mut self.case);
+        self.throw_room();
+        let any = self.dice.below(self.case.words.len());
+        self.case.place = match self.dice.below(8) {
+            0 => [(); 2].map(|_| self.dice.pick(&EDGE_PLACES)),
+            1 => [0, 1],
+            2 => [15, 15],
+            _ => self.place_near(self.case.words[any]),
+        };
+        self.replay();
+        if self.dice.one_in(8) {
+            self.replay_is_fair(pool);
+        }
+    }
+
+    /// From a sound table, what the product hands back sends in a run what its calls send for the
+    /// channel over the whole stream, and leaves the same record.
+    fn replay_is_fair(&mut self, pool: &Pool) {
+        let [group, channel] = self.case.place.map(|number| number % 16);
+        let number = 16 * usize::from(group) + usize::from(channel);
+        cut_table(&mut self.dice, &pool.sound, &mut self.case.table);
+        let start: Vec<Record> = self.case.table[..256].to_vec();
+        let words = &self.case.words[..self.case.words_len];
+        let (heard, record) = product_heard(words, &mut start.clone(), number);
+        let mut own = vec![0; words.len()];
+        let handed = product_only(words, [group, channel], &mut own);
+        let (mut out, mut table) = (vec![0; 2 * words.len()], start);
+        let done = product_run_up(&own[..handed.written], &mut table, &mut out);
+        assert_eq!(out[..done.written], heard, "a replay sends other words");
+        assert_eq!(table[number], record, "a replay leaves another record");
+        self.replays.count_fair();
+    }
+}
+
+/// What the product's calls send for the voices of a channel, and its record behind them.
+fn product_heard(words: &[u32], table: &mut [Record], number: usize) -> (Vec<u32>, Record) {
+    let (mut heard, mut place) = (vec![], 0);
+    while let Some(rest @ [first, ..]) = words.get(place..) {
+        if rest.len() < size(*first) {
+            break;
+        }
+        let mut out = [0; 4];
+        let done = product_run_up(&rest[..size(*first)], table, &mut out);
+        if first >> 28 == 2 && record_number(*first) == number {
+            heard.extend(&out[..done.written]);
+        }
+        place += size(*first);
+    }
+    (heard, table[number])
+}
+
 /// A list of marks of any length, and what stands behind it.
 fn throw_coarse(dice: &mut Dice, lent: &mut Lent) {
     for marks in &mut lent.coarse {
@@ -1134,7 +1258,8 @@ fn damage(dice: &mut Dice, words: &mut [u32]) {
 impl Comparison {
     fn random(&mut self, pool: &Pool) {
         let dice = &mut self.dice;
-        let (function, _) = FUNCTIONS[self.cases % Lesson as usize];
+        // All but the last two, which are lessons and replays.
+        let (function, _) = FUNCTIONS[self.cases % (FUNCTIONS.len() - 2)];
         throw_words(dice, function, &mut self.case);
         throw_table(dice, pool, &mut self.case);
         if function.is_of_a_host() {
@@ -1223,7 +1348,7 @@ impl Comparison {
         complete &= self.entries.summary("Up", &[SENT, TAKEN_IN, OUTPUT_SHORT]);
         complete &= self.in_the_room.summary() & self.hosts.summary();
         complete &= self.asked.summary() & self.marks.summary();
-        complete &= self.lessons.summary();
+        complete &= self.lessons.summary() & self.replays.summary();
         if !complete {
             println!("something that can occur was never seen");
             std::process::exit(1);
@@ -1240,6 +1365,21 @@ fn product_run_up(words: &[u32], table: &mut [Record], out: &mut [u32]) -> Done 
             words.len(),
             table,
             table_len,
+            out.as_mut_ptr(),
+            out.len(),
+        )
+    }
+}
+
+fn product_only(words: &[u32], [group, channel]: [u8; 2], out: &mut [u32]) -> Done {
+    let (words, words_len) = (words.as_ptr(), words.len());
+    // Pointers and lengths come from slices.
+    unsafe {
+        quernbrae_only(
+            words,
+            words_len,
+            group,
+            channel,
             out.as_mut_ptr(),
             out.len(),
         )
@@ -1295,6 +1435,7 @@ fn compare_all(random_cases: usize) {
     comparison.every_channel_marked();
     comparison.every_mark();
     comparison.every_mark_of_a_lesson();
+    comparison.every_channel_alone();
     let pool = Pool::new(&mut comparison.dice);
     for _ in 0..random_cases {
         comparison.random(&pool);
@@ -1304,6 +1445,7 @@ fn compare_all(random_cases: usize) {
     }
     for _ in 0..random_cases / 2 {
         comparison.random_lesson();
+        comparison.random_replay(&pool);
     }
     for _ in 0..random_cases / 50 {
         comparison.history(&pool);

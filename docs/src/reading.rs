@@ -3,6 +3,7 @@
 //! to 7.7 and Appendix D.
 
 mod hosts;
+mod pupil;
 
 #[cfg(test)]
 #[path = "reading_tests.rs"]
@@ -12,6 +13,7 @@ pub use hosts::{
     give_group, host_down, host_keys_down, host_mark_coarse, host_run_down, host_run_up, host_up,
     GIVEN, NOBODY, NOT_YOUR_GROUP,
 };
+pub use pupil::{only, only_filter};
 
 // The answers of a call, by their numbers in the build specification.
 pub const SENT: u32 = 0;

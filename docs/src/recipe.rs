@@ -1,4 +1,4 @@
-//! Writes the stored arguments, the standard input and the expected standard output of the four
+//! Writes the stored arguments, the standard input and the expected standard output of the five
 //! programs. Everything follows from the tables and seeds of this file, from the data entries and
 //! from the scenes for the panel.
 
@@ -23,8 +23,9 @@ const AFTER_LAST_EDGE: usize = 1500;
 /// How the standard input of one program is put together.
 struct Plan {
     name: &'static str,
-    /// Channels to be marked coarse.
     arguments: &'static [&'static str],
+    /// The table for these arguments.
+    starts_from: fn(&[&str]) -> Option<[Record; 256]>,
     seed: u64,
     examples: &'static [u32],
     every_case: fn(&mut Dice) -> Vec<u32>,
@@ -80,6 +81,7 @@ fn listing() -> Plan {
     Plan {
         name: "listing",
         arguments: &["0:3", "1:0", "2:0", "05:07", "9:12", "15:15"],
+        starts_from: reading::marked_table,
         seed: 1,
         examples: &EXAMPLES_UP,
         every_case: every_case_up,
@@ -148,6 +150,54 @@ fn panel() -> Plan {
     }
 }
 
+/// Group 1 and channel 0, so that group 0 and channel 1 are other channels.
+const ONE_PUPIL: [&str; 2] = ["01", "0"];
+
+fn only() -> Plan {
+    Plan {
+        name: "only",
+        arguments: &ONE_PUPIL,
+        starts_from: |_| reading::marked_table(&[]),
+        seed: 5,
+        types: &TYPES_UP,
+        last: pupil_and_neighbours,
+        straddles: [(0x9, 1), (0xC, 1), (0xF, 2)],
+        // The words that are there of the packet look like notes of the channel.
+        cut_end: &[
+            0xE1, 0x90, 0x3C, 0x40, 0x21, 0x90, 0x3C, 0x40, 0x21, 0x90, 0x3C, 0x40, 0x21, 0x90,
+            0x3C,
+        ],
+        output: |bytes, _| reading::only_filter(bytes, &ONE_PUPIL).expect("a group and a channel"),
+        check_output: check_only,
+        ..listing()
+    }
+}
+
+/// Every status with any data, on the channel and on those that share its group, its number or none.
+fn pupil_and_neighbours(dice: &mut Dice) -> Vec<u32> {
+    let mut stream = vec![];
+    for status in 0..16 {
+        for place in [0x0100_0000, 0x0101_0000, 0x0000_0000, 0x0001_0000] {
+            stream.push(0x2000_0000 | place | status << 20 | dice.word() & 0xFFFF);
+        }
+    }
+    stream
+}
+
+/// Fails unless the output is of the channel alone, and has packets with every status and with bad
+/// data among them.
+fn check_only(output: &[u8]) {
+    let mut statuses = [0; 16];
+    let mut bad = 0;
+    for packet in output.chunks(4) {
+        assert_eq!([packet[0], packet[1] & 15], [0x21, 0]);
+        statuses[usize::from(packet[1] >> 4)] += 1;
+        bad += usize::from(packet[2] > 127 || packet[3] > 127);
+    }
+    println!("only: packets by status {statuses:?}, with bad data {bad}");
+    assert!(statuses.iter().all(|count| *count > 0) && bad > 0);
+}
+
 fn push(dice: &mut Dice, message_type: u32, stream: &mut Vec<u32>) {
     let words = packet(dice, message_type);
     stream.extend(&words[..size(words[0])]);
@@ -201,7 +251,7 @@ fn every_case_up(dice: &mut Dice) -> Vec<u32> {
 
 impl Plan {
     fn table(&self) -> [Record; 256] {
-        reading::marked_table(self.arguments).expect("the arguments name channels")
+        (self.starts_from)(self.arguments).expect("the arguments name channels")
     }
 }
 
@@ -360,7 +410,7 @@ fn check(plan: &Plan, stream: &[u32]) {
         let named = seen.places.of_type(*message_type);
         println!("{}: bad places of type {message_type} {named:?}", plan.name);
     }
-    if !plan.arguments.is_empty() {
+    if plan.table().iter().any(|record| record.coarse == COARSE) {
         assert!(seen.entries.summary(plan.name, &[SENT, TAKEN_IN]));
     }
 }
@@ -383,7 +433,7 @@ fn write(plan: &Plan, folder: &Path) -> std::io::Result<()> {
 
 fn main() -> std::io::Result<()> {
     let folder = std::env::args().nth(1).expect("usage: recipe FOLDER");
-    [listing(), up(), down(), panel()]
+    [listing(), up(), down(), panel(), only()]
         .iter()
         .try_for_each(|plan| write(plan, Path::new(&folder)))
 }

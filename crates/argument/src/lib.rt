@@ -1,7 +1,9 @@
-// The argument GROUP:CHANNEL, by which a program is told that a channel has no fine half.
+// The arguments of programs: GROUP:CHANNEL, by which one is told that a channel has no fine half, and
+// GROUP or CHANNEL alone.
 //
-// `channel_named` has no `requires`. It says which channel a row of bytes names, and that it names none
-// where anything but two numbers of at most 15 and one colon stands in it, for every row of bytes.
+// `channel_named` and `number_in` have no `requires`. They say which channel and which number a row of
+// bytes names, and that it names none where anything but numbers of at most 15, and between two of them
+// one colon, stands in it, for every row of bytes.
 ghost use mathlib.Core.Path.{_≡_};
 ghost use Prim.Native.Nat.{_+_, _*_, _-_, _<_, _≤_};
 ghost use mathlib.Core.Bool.{_&&_};
@@ -25,7 +27,7 @@ pub enum Named {
 }
 
 // A group or a channel, where there is one.
-enum Number {
+pub enum Number {
     None,
     Is(u8),
 }
@@ -70,7 +72,8 @@ fn two_digits(a: u8, b: u8) -> Number
     number_if(is_digit(a) & is_digit(b), value(a) * 10 + value(b))
 }
 
-fn number_in(text: &[u8]) -> Number
+// The group or the channel that an argument names.
+pub fn number_in(text: &[u8]) -> Number
     ensures { λ r. ⌜ r ≡ numberIn (now (text .entry)) ⌝ }
 {
     if text.len() == 1 {

@@ -16,3 +16,5 @@ pub mod LessonLaws
 pub mod BeginnersLaws
 pub mod ApartLaws
 pub mod HostLaws
+pub mod Pieces
+pub mod OnePupilLaws

@@ -31,8 +31,9 @@ use Rattle.message.specs.Message.{Midi1, read1, write2}
 use Rattle.lift.specs.Played.{event, keysAfter, recordAfter}
 use Rattle.table.specs.Table.{oneUp, runUp, tableAfter, tableBy, tableUp}
 use Rattle.table.proofs.KeptLaws.{all-empty}
+use Rattle.pupil.specs.Only.{isOn}
 use Rattle.question.specs.Question.{keysAsked, keysTold, lowestTold, placeAsked}
-use Rattle.claims.specs.Picture.{Picture, accepted, acceptedOn, heardOn, heardOnce, isOn, keysOn, messagesOn}
+use Rattle.claims.specs.Picture.{Picture, accepted, acceptedOn, heardOn, heardOnce, keysOn, messagesOn}
 use Rattle.claims.specs.Picture.{pressedBy, saidOf}
 use Rattle.claims.proofs.RefusalLaws.{proved-refusals}
 use Rattle.claims.proofs.PacketByPacket.{stays-whole}
@@ -56,13 +57,13 @@ module _ (group channel : ℕ) (hg : group ≤ 15) (hc : channel ≤ 15) where
   on t = keysOn group channel t
 
   -- a packet of the channel has its place, and no other has
-  own-place : (w : ℕ) → isOn group channel w ≡ true → placeAsked group channel ≡ placeOf w
+  pub own-place : (w : ℕ) → isOn group channel w ≡ true → placeAsked group channel ≡ placeOf w
   own-place w e =
       let x = eqb (groupOf w .0) group in
       let y = eqb (channelOf w .0) channel in
       rw (eqb-true (groupOf w .0) group (and-left x y e), eqb-true (channelOf w .0) channel (and-right x y e))
 
-  other-place : (w : ℕ) → isOn group channel w ≡ false → placeAsked group channel ≡ placeOf w → ⊥
+  pub other-place : (w : ℕ) → isOn group channel w ≡ false → placeAsked group channel ≡ placeOf w → ⊥
   other-place w e z =
       let g : groupOf w .0 ≡ group = omega arith in
       let c : channelOf w .0 ≡ channel = omega arith in

@@ -5,8 +5,7 @@ use mathlib.Core.Path.{_≡_}
 use mathlib.Core.Bool.{Bool, false, cond, _&&_}
 use mathlib.Core.List.{List, [], _∷_, map}
 use lib.ListN.{getD}
-use lib.Dec.{eqb, leb}
-use Rattle.ump.specs.Word.{channelOf, groupOf, messageType, voice1}
+use lib.Dec.{leb}
 use Rattle.ump.specs.Packet.{cut, first}
 use Rattle.stream.specs.Answers.{answered, takenIn}
 use Rattle.stream.specs.Call.{answerOf, within}
@@ -19,21 +18,16 @@ use Rattle.channel.specs.Record.{empty, fresh}
 use Rattle.message.specs.Message.{Midi1, read1}
 use Rattle.lift.specs.Played.{event}
 use Rattle.table.specs.Table.{oneUp, runUp, tableAfter, tableUp}
+use Rattle.pupil.specs.Only.{isOn, voiceOn}
 use Rattle.question.specs.Question.{keysAsked, lowestTold, placeAsked}
 
 -- an answer that accepts the packet: something was sent for it, or it was taken in
 abbrev pub accepted : ℕ → Bool
 accepted answer = leb answer takenIn
 
--- a packet of that group and channel, by its first word
-abbrev pub isOn : ℕ → ℕ → ℕ → Bool
-isOn group channel w = eqb (groupOf w .0) group && eqb (channelOf w .0) channel
-
 -- a call that accepted a MIDI 1.0 voice message of that group and channel
 abbrev pub acceptedOn : {T : Type 0} → ℕ → ℕ → Made T → Bool
-acceptedOn group channel m =
-    let w = first (m .packet) in
-    accepted (answerOf (m .call)) && eqb (messageType w) voice1 && isOn group channel w
+acceptedOn group channel m = accepted (answerOf (m .call)) && voiceOn group channel (first (m .packet))
 
 -- Those messages, in order: of some calls; and of a run up over the words s, from the table t, in an output of so many
 -- words, and of one call at them.

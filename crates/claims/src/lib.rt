@@ -4,6 +4,7 @@ ghost use Rattle.claims.specs.Beginners.{Beginners};
 ghost use Rattle.claims.specs.Lessons.{Lessons};
 ghost use Rattle.claims.specs.Marks.{Marks};
 ghost use Rattle.claims.specs.NormalForm.{NormalForm};
+ghost use Rattle.claims.specs.OnePupil.{OnePupil};
 ghost use Rattle.claims.specs.PacketByPacket.{PacketByPacket};
 ghost use Rattle.claims.specs.Picture.{Picture};
 ghost use Rattle.claims.specs.Places.{Places};
@@ -81,4 +82,9 @@ pub fn beginners()
 // Two hosts on one box stand apart, and what holds of one host.
 pub fn two_hosts()
     ensures { λ _. ⌜ TwoHosts ⌝ }
+{}
+
+// One pupil at a time: what a channel sends and remembers is that of its own packets alone.
+pub fn one_pupil()
+    ensures { λ _. ⌜ OnePupil ⌝ }
 {}

@@ -1,15 +1,12 @@
 -- What a buffer is filled with fits in it. Assumes nothing.
-use Prim.Native.Nat.{ℕ, _*_, _/_, _≤_}
+use Prim.Native.Nat.{ℕ, _*_, _≤_}
 use mathlib.Core.Path.{_≡_}
 use mathlib.Core.List.{List}
 use native.Mathlib.Omega.{arith}
 use lib.ListN.{length, length-take, take}
 use lib.Seq.{slice}
-use Rattle.wire.specs.Words.{bytesInto, wordsInto, wordsOf}
-use Rattle.wire.proofs.WordLaws.{bytes-length, slice-length, words-length}
-
-pub bytes-most : (n : ℕ) (ws text : List ℕ) → n ≡ length (bytesInto text ws) → n ≤ length text
-bytes-most n ws text e = omega (arith, bytes-length (take (length text / 4) ws), length-take (length text / 4) ws)
+use Rattle.wire.specs.Words.{wordsInto, wordsOf}
+use Rattle.wire.proofs.WordLaws.{slice-length, words-length}
 
 pub words-most : (n k : ℕ) (s buffer : List ℕ) → n ≡ length (wordsInto buffer (take k s)) → (n ≤ length buffer) × (4 * n ≤ length s)
 words-most n k s buffer e =

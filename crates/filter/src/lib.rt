@@ -1,22 +1,20 @@
-// Standard input to standard output, a buffer at a time: what listing, up, down and panel do. They start
-// from a table that is fresh but for the channels that the arguments mark, and read nothing where an
-// argument is wrong.
+// Standard input to standard output, a buffer at a time: what listing, up, down, panel and only do. They
+// start from a table that is fresh but for the channels that the arguments mark, and read nothing where
+// an argument is wrong.
 //
 // A packet that straddles two reads is not cut, and input of any length is taken. What a buffer comes
-// to is said by the contracts of flow and wire. Here no contract can say what is read or written, so
+// to is said by the contracts of flow, pupil and wire. Here no contract can say what is read or written, so
 // these functions are proved to be safe and to end.
-mod totals;
-
 use flow::PANEL_BYTES;
-use flow::SORTS;
 use flow::Table;
 use libc::STDIN_FILENO;
 use libc::STDOUT_FILENO;
+use program::Program;
+use program::Totals;
+use program::translate;
 use start::Start;
 use start::Takes;
-use stream::Done;
 use stream::NO_ROOM;
-use totals::Totals;
 ghost use mathlib.Core.Path.{_≡_};
 ghost use Prim.Native.Nat.{_≤_};
 ghost use lib.ListN.{length};
@@ -30,14 +28,6 @@ const INPUT_WORDS: usize = 0x2000;
 const OUTPUT_WORDS: usize = 0x4000;
 
 const OUTPUT_BYTES: usize = 0x10000;
-
-// What becomes of the packets.
-enum Program {
-    Lines,
-    Up,
-    Down,
-    Panel,
-}
 
 // What goes on from one turn to the next. The bytes that are left stand at the front of the input.
 // Where packets among them wait for room in the output, they come before more is read.
@@ -55,15 +45,6 @@ struct Intake {
     have: usize,
     ended: bool,
     failed: bool,
-}
-
-// What the packets of some words came to: the words read, and the bytes to write.
-struct Translated {
-    table: Table,
-    totals: Totals,
-    answer: u32,
-    read: usize,
-    bytes: usize,
 }
 
 // Reads after the bytes that are left, unless packets among them wait. Only 0 is the end of the
@@ -96,84 +77,6 @@ fn read_more(bytes: &mut [u8], left: usize, waits: bool) -> Intake
         have: left + n,
         ended: n == 0,
         failed: false,
-    }
-}
-
-// What a run sent, as bytes at the start of the text.
-fn sent_as_bytes(
-    table: Table,
-    totals: Totals,
-    done: Done,
-    counts: [u64; SORTS],
-    sent: &[u32],
-    text: &mut [u8],
-) -> Translated
-    requires { ⌜ done .written ≤ length (now sent) ⌝ }
-    ensures read { λ r. ⌜ r .read ≡ done .read ⌝ }
-    ensures bytes { λ r. ⌜ r .bytes ≤ length (now (text .exit)) ⌝ }
-{
-    let n = done.written;
-    let bytes = wire::bytes_of(&sent[..n], text);
-    let totals = totals.and(done, counts);
-    Translated {
-        table,
-        totals,
-        answer: done.answer,
-        read: done.read,
-        bytes,
-    }
-}
-
-// The packets of the words up, and what they send as bytes at the start of the text.
-fn up_as_bytes(
-    table: Table,
-    totals: Totals,
-    words: &[u32],
-    sent: &mut [u32],
-    text: &mut [u8],
-) -> Translated
-    ensures read { λ r. ⌜ r .read ≤ length (now (words .entry)) ⌝ }
-    ensures bytes { λ r. ⌜ r .bytes ≤ length (now (text .exit)) ⌝ }
-{
-    let ran = flow::up_some(table, words, sent);
-    let table = ran.table;
-    let counts = ran.counts;
-    sent_as_bytes(table, totals, ran.done, counts, sent, text)
-}
-
-// The packets of the words, and what they come to at the start of the text. The panel shows none of the
-// words sent, so it leaves their bytes no room.
-fn translate(
-    program: Program,
-    table: Table,
-    totals: Totals,
-    words: &[u32],
-    sent: &mut [u32],
-    text: &mut [u8],
-) -> Translated
-    ensures read { λ r. ⌜ r .read ≤ length (now (words .entry)) ⌝ }
-    ensures bytes { λ r. ⌜ r .bytes ≤ length (now (text .exit)) ⌝ }
-{
-    match program {
-        Program::Lines => {
-            let lines = flow::list_some(table, words, text);
-            let table = lines.table;
-            let done = lines.done;
-            Translated {
-                table,
-                totals,
-                answer: done.answer,
-                read: done.read,
-                bytes: done.written,
-            }
-        }
-        Program::Up => up_as_bytes(table, totals, words, sent, text),
-        Program::Down => {
-            let ran = flow::down_some(words, sent);
-            let counts = ran.counts;
-            sent_as_bytes(table, totals, ran.done, counts, sent, text)
-        }
-        Program::Panel => up_as_bytes(table, totals, words, sent, &mut text[..0]),
     }
 }
 
@@ -277,6 +180,14 @@ pub fn down() {
     let start = start::taken(b"down", Takes::Nothing);
     let s = turns(Program::Down, start);
     say_filter(b"down", s);
+}
+
+// The packets of standard input that are one channel's, which the two arguments name.
+pub fn only() {
+    let chosen = start::channel_chosen(b"only");
+    let start = chosen.start;
+    let s = turns(Program::Only(chosen.group, chosen.channel), start);
+    say_filter(b"only", s);
 }
 
 // Writes the lines of the channels that have keys down.

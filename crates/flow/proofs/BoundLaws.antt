@@ -18,7 +18,7 @@ use Rattle.table.specs.Table.{runUp}
 use Rattle.flow.specs.Listing.{runLines}
 
 -- what is reported of a run is no more than that
-reads-most : {T : Type 0} (r : Ran T) (n : ℕ) (d : Done) → r .read ≤ n → d ≡ reported r → d .read ≤ n
+pub reads-most : {T : Type 0} (r : Ran T) (n : ℕ) (d : Done) → r .read ≤ n → d ≡ reported r → d .read ≤ n
 reads-most r n d h e = omega (arith, ap (λ (x : Done). x .read) e)
 
 pub up-reads : (room : ℕ) (t : List Record) (ws : List ℕ) (d : Done) → d ≡ reported (runUp room t ws) → d .read ≤ length ws
@@ -38,7 +38,7 @@ unfolding runDownBy
 down-reads room ws d = reads-most (runDown room ws) (length ws) d (words-read _ _ ws)
 
 -- what an output of the same length holds was room for
-writes-most : {T : Type 0} (r : Ran T) (out out′ : List ℕ) (d : Done)
+pub writes-most : {T : Type 0} (r : Ran T) (out out′ : List ℕ) (d : Done)
     → d ≡ reported r → out′ ≡ atStart (r .sends) out → length out′ ≡ length out → d .written ≤ length out′
 writes-most r out out′ d e f l =
     omega (

@@ -1,6 +1,6 @@
 // What a caller uses: one call and a run, up and down, over the table that the caller lends, what may
-// be asked of the table, and its coarse marks, under the names that C and Rust link
-// (include/quernbrae.h).
+// be asked of the table, its coarse marks, and one channel's packets alone, under the names that C and
+// Rust link (include/quernbrae.h).
 //
 // No function has a `requires`. Each contract gives the report, the table and the output at exit by
 // the definitions of the crates below, on every input.
@@ -15,6 +15,7 @@ ghost use Rattle.ump.specs.Packet.{packet};
 ghost use Rattle.stream.specs.Report.{reported, reportedCall};
 ghost use Rattle.channel.specs.Record.{empty};
 ghost use Rattle.question.specs.Question.{keysAsked};
+ghost use Rattle.pupil.specs.Only.{only};
 ghost use Rattle.mark.specs.Mark.{markAnswer, tableMarked};
 ghost use Rattle.hosts.specs.Hosts.{hostKeysAsked, hostMarkAnswer, hostOneDown, hostOneUp, hostRunDown, hostRunUp};
 ghost use Rattle.hosts.specs.Hosts.{hostTableMarked};
@@ -205,6 +206,16 @@ pub extern "C" fn quernbrae_host_run_down(
         (now (out .entry)) ⌝ }
 {
     voice::run_down(words, out, hosts::host_rule(host, owners))
+}
+
+// One channel's packets: the MIDI 1.0 voice messages of a group and channel, unchanged and in order.
+#[no_mangle]
+pub extern "C" fn quernbrae_only(words: &[u32], group: u8, channel: u8, out: &mut [u32]) -> Done
+    ensures report { λ r. ⌜ r ≡ reported (only group channel (length (now (out .entry))) (now (words .entry))) ⌝ }
+    ensures output { λ _. ⌜ now (out .exit) ≡ atStart
+        (only group channel (length (now (out .entry))) (now (words .entry)) .sends) (now (out .entry)) ⌝ }
+{
+    pupil::only(words, group, channel, out)
 }
 
 // How many keys are down on a channel of a group, and the lowest.

@@ -1,15 +1,18 @@
 // Where a program starts from: its arguments, all of which are looked at before anything is read. Each
-// names a channel to mark coarse, or it is wrong and gets a line on standard error.
+// names a channel to mark coarse, or two name the one channel that is asked for. One that is wrong, or
+// missing, gets a line on standard error.
 //
 // No contract can say what a program is started with, so these functions are proved to be safe and to
 // end. What an argument names and what a mark does are said by the contracts of argument and mark.
 use argument::Named;
+use argument::Number;
 use flow::Table;
 use libc::ENAMETOOLONG;
 
-// What a program takes.
+// What a program takes: channels to mark, one channel by two arguments, or nothing.
 pub enum Takes {
     Channels,
+    OneChannel,
     Nothing,
 }
 
@@ -17,6 +20,19 @@ pub enum Takes {
 pub struct Start {
     pub table: Table,
     pub wrong: bool,
+}
+
+// The channel that is asked for, where no argument forbids to start.
+pub struct Chosen {
+    pub start: Start,
+    pub group: u8,
+    pub channel: u8,
+}
+
+// A group or a channel by an argument, which is 0 where that is wrong or missing.
+struct OneNumber {
+    number: u8,
+    wrong: bool,
 }
 
 // The bytes of a wrong argument that are shown, and more than any right one has.
@@ -85,19 +101,82 @@ impl Start {
     fn and_argument(self, name: &[u8], takes: Takes, i: usize) -> Start {
         match takes {
             Takes::Channels => self.and_channel(name, i),
+            Takes::OneChannel => self.and_wrong(name, b": takes GROUP and CHANNEL alone: ", i),
             Takes::Nothing => self.and_wrong(name, b": takes no arguments: ", i),
         }
     }
 }
 
-// A fresh table in which the channel of each argument is marked. Argument 0 is the program itself.
-pub fn taken(name: &[u8], takes: Takes) -> Start {
+// A fresh table in which the channel of each argument from a place on is marked.
+fn taken_from(name: &[u8], takes: Takes, from: usize) -> Start {
     let n = os::arg_count();
     let mut s = Start::fresh();
-    let mut i = 1;
+    let mut i = from;
     while i < n {
         s = s.and_argument(name, takes, i);
         i += 1;
     }
     s
+}
+
+// The same of all arguments. Argument 0 is the program itself.
+pub fn taken(name: &[u8], takes: Takes) -> Start {
+    taken_from(name, takes, 1)
+}
+
+// The group or the channel that an argument names. One that is too long to be shown whole names none.
+fn number_at(i: usize) -> Number {
+    let mut bytes = [0u8; SHOWN_BYTES];
+    let n = os::arg(i, &mut bytes);
+    if os::errno() == 0 {
+        argument::number_in(&bytes[..n])
+    } else {
+        Number::None
+    }
+}
+
+fn number_taken(name: &[u8], missing: &[u8], what: &[u8], i: usize) -> OneNumber {
+    if os::arg_count() <= i {
+        notice::say_wrong(name, missing, b"", false);
+        return OneNumber {
+            number: 0,
+            wrong: true,
+        };
+    }
+    let number = number_at(i);
+    match number {
+        Number::None => {
+            say_wrong(name, what, i);
+            OneNumber {
+                number: 0,
+                wrong: true,
+            }
+        }
+        Number::Is(number) => OneNumber {
+            number,
+            wrong: false,
+        },
+    }
+}
+
+// The channel that the two arguments name, by its group and its own number, and a fresh table.
+pub fn channel_chosen(name: &[u8]) -> Chosen {
+    let group = number_taken(name, b": GROUP is missing", b": not a GROUP, 0 to 15: ", 1);
+    let channel = number_taken(
+        name,
+        b": CHANNEL is missing",
+        b": not a CHANNEL, 0 to 15: ",
+        2,
+    );
+    let rest = taken_from(name, Takes::OneChannel, 3);
+    let table = rest.table;
+    let start = Start {
+        table,
+        wrong: group.wrong | channel.wrong | rest.wrong,
+    };
+    Chosen {
+        start,
+        group: group.number,
+        channel: channel.number,
+    }
 }

@@ -1,3 +1,4 @@
 pub mod CallLaws
 pub mod RunLaws
 pub mod RunLoop
+pub mod Stateless

@@ -3,7 +3,8 @@
 use Prim.Native.Nat.{ℕ, suc, _+_, _-_, _<_, _≤_}
 use mathlib.Core.Path.{_≡_, refl, sym, ap, _∙_, subst}
 use mathlib.Core.Bool.{Bool, true, false, cond}
-use mathlib.Core.List.{List, _∷_, _++_, append-assoc, append-nil}
+use mathlib.Core.Logic.{⊎-elim}
+use mathlib.Core.List.{List, [], _∷_, _++_, append-assoc, append-nil}
 use native.Mathlib.Omega.{arith}
 use native.Mathlib.Nat.{add-zero, zero-add, add-assoc, sub-zero}
 use lib.ListN.{length, getD, take, drop, length-drop, length-append, take-append-drop}
@@ -13,8 +14,8 @@ use borrow.Author.Tests.{leb-true}
 use Rattle.ground.specs.Store.{atStart, written}
 use Rattle.ground.proofs.StoreLaws.{written-none}
 use Rattle.ump.specs.Packet.{cut, first, packet, size}
-use Rattle.ump.proofs.PacketLaws.{cut-at, cut-end, size-range}
-use Rattle.stream.specs.Answers.{noRoom, sent}
+use Rattle.ump.proofs.PacketLaws.{cut-at, cut-end, packet-size, size-range}
+use Rattle.stream.specs.Answers.{cutPacket, noRoom, sent}
 use Rattle.stream.specs.Call.{Call, answerOf, fit, leftOf, readOf, sentOf, stopped, went, within}
 use Rattle.stream.specs.Report.{counting, reported}
 use Rattle.stream.specs.Run.{Ran, run, thenRun}
@@ -46,6 +47,18 @@ reports d = rw (d .answers, d .reads, d .writes)
 abbrev pub Inside : {T : Type 0} → List ℕ → Call T → Type 0
 Inside s (went a ws u) = (length (packet s) ≡ size (first s)) × (size (first s) ≤ length s)
 Inside s (stopped a) = Unit {0}
+
+-- what stops where no packet is whole goes on only with a whole one
+pub packet-inside : {T : Type 0} (act : List ℕ → Call T) → act [] ≡ stopped cutPacket → (w : ℕ) (s : List ℕ)
+    → Inside (w ∷ s) (act (packet (w ∷ s)))
+packet-inside {T} act e w s =
+    ⊎-elim (λ n. subst (λ (c : Call T). Inside (w ∷ s) c) (sym (ap act n ∙ e)) tt)
+    (λ h. go (act (packet (w ∷ s))) (ap length (h .0) ∙ length-take-le (size w) (w ∷ s) (h .1)) (h .1))
+    (packet-size w s)
+  where
+    go : (c : Call T) → length (packet (w ∷ s)) ≡ size w → size w ≤ length (w ∷ s) → Inside (w ∷ s) c
+    go (went a ws u) e h = (e, h)
+    go (stopped a) e h = tt
 
 -- a run after i words were read and ws were sent
 abbrev onTop : {T : Type 0} → ℕ → List ℕ → Ran T → Ran T

@@ -1,7 +1,7 @@
 -- Laws of one packet: a call looks at its own packet alone, and goes on only with a whole one; what it comes to;
 -- and it sends at most four words. Assumes nothing.
 use Prim.Native.Nat.{ℕ, zero, suc, _≤_}
-use mathlib.Core.Path.{_≡_, refl, sym, ap, subst, _∙_}
+use mathlib.Core.Path.{_≡_, refl, sym, ap, subst}
 use mathlib.Core.Bool.{Bool, true, false, _||_}
 use mathlib.Core.Logic.{_⊎_, inl, inr, ⊎-elim}
 use mathlib.Core.Option.{Option, none, some}
@@ -9,7 +9,7 @@ use mathlib.Core.List.{List, [], _∷_, map}
 use native.Mathlib.Omega.{arith}
 use lib.Dec.{eqb, leb, leb·zero, ltb}
 use lib.ListN.{drop, drop-of-length-le, getD, length, length-map, take}
-use lib.Seq.{drop-cons, length-take-le}
+use lib.Seq.{drop-cons}
 use borrow.Author.Tests.{ltb-false, ltb-true}
 use Rattle.ground.proofs.Cases.{by-bool, choose}
 use Rattle.effect.specs.Effect.{effected}
@@ -20,7 +20,7 @@ use Rattle.stream.specs.Answers.{cutPacket, noForm, notSound, sent, stopsRun, t
 use Rattle.stream.specs.Call.{Call, answerOf, fit, leftOf, refused, sentOf, stopped, went}
 use Rattle.stream.proofs.CallLaws.{refusal, refused-fits}
 use Rattle.stream.proofs.RunLaws.{Does}
-use Rattle.stream.proofs.RunLoop.{Inside}
+use Rattle.stream.proofs.RunLoop.{Inside, packet-inside}
 use Rattle.screen.specs.declared.Rule.{Rule}
 use Rattle.screen.specs.Screen.{goesOn, screenBy, screened}
 use Rattle.screen.proofs.ScreenLaws.{cut-only, refused-above, screened-cases}
@@ -40,18 +40,6 @@ pub down-near : (rule : Rule) (t : Unit {0}) (w : ℕ) (s : List ℕ)
     → callDownBy rule t (take (size w) (w ∷ s)) ≡ callDownBy rule t (w ∷ s)
 unfolding callDownBy
 down-near rule t w s = rw (packet-near w s)
-
--- what stops where no packet is whole goes on only with a whole one
-packet-inside : {T : Type 0} (act : List ℕ → Call T) → act [] ≡ stopped cutPacket → (w : ℕ) (s : List ℕ)
-    → Inside (w ∷ s) (act (packet (w ∷ s)))
-packet-inside {T} act e w s =
-    ⊎-elim (λ n. subst (λ (c : Call T). Inside (w ∷ s) c) (sym (ap act n ∙ e)) tt)
-    (λ h. go (act (packet (w ∷ s))) (ap length (h .0) ∙ length-take-le (size w) (w ∷ s) (h .1)) (h .1))
-    (packet-size w s)
-  where
-    go : (c : Call T) → length (packet (w ∷ s)) ≡ size w → size w ≤ length (w ∷ s) → Inside (w ∷ s) c
-    go (went a ws u) e h = (e, h)
-    go (stopped a) e h = tt
 
 pub up-inside : (rule : Rule) (known : Bool) (r : Record) (w : ℕ) (s : List ℕ)
     → Inside (w ∷ s) (callBy rule known r (w ∷ s))
