@@ -10,6 +10,7 @@ mod packets;
 mod replays;
 mod tally;
 mod timing;
+mod traffic;
 
 use entries::{entry, every_value, Entries, ENTRIES};
 use host_sweeps::{throw_host, Hosts, LONGEST_OWNERS};
