@@ -53,10 +53,15 @@ pub const COARSE: u8 = 1;
 /// Stands for the lowest key where no key is down.
 pub const NO_KEY: u32 = 255;
 
-// Whose table a packet goes up with. A lent one may hold any record, and its keys are asked for
-// later; a run's own began fresh, so it is sound, and what it knows of keys is never seen.
-const LENT: bool = true;
-const OWN: bool = false;
+// What is known of the table that a packet goes up with. A lent one may hold any record, and its
+// keys are asked for later. Once all its records are known to be sound they stay so. A run's own
+// began fresh, so it is sound too, and what it knows of keys is never seen.
+const LENT: u8 = 0;
+const LENT_AND_SOUND: u8 = 1;
+const OWN: u8 = 2;
+
+/// Over so many words it is faster to ask for all records once than for one at every voice.
+const LONG_RUN: usize = 512;
 
 // Which room a packet goes up in. In the beginners' room not everything that is good may pass.
 const BEGINNERS: bool = true;
@@ -419,6 +424,11 @@ pub fn up(words: &[u32], table: &mut [Record], out: &mut [u32]) -> Done {
 /// Treats packet after packet, going up.
 pub fn run_up(words: &[u32], table: &mut [Record], out: &mut [u32]) -> Done {
     match whole_table(table) {
+        Some(table) if words.len() >= LONG_RUN && table.iter().all(Record::sound) => {
+            run(words, out, |words, out| {
+                up_packet::<LENT_AND_SOUND, ANY_ROOM>(words, table, out)
+            })
+        }
         Some(table) => run(words, out, |words, out| {
             up_packet::<LENT, ANY_ROOM>(words, table, out)
         }),
@@ -548,7 +558,7 @@ fn run(words: &[u32], out: &mut [u32], mut call: impl FnMut(&[u32], &mut [u32]) 
 }
 
 #[inline(always)]
-fn up_packet<const TABLE: bool, const ROOM: bool>(
+fn up_packet<const TABLE: u8, const ROOM: bool>(
     words: &[u32],
     table: &mut [Record; 256],
     out: &mut [u32],
@@ -563,7 +573,7 @@ fn up_packet<const TABLE: bool, const ROOM: bool>(
 }
 
 #[inline(always)]
-fn up_voice<const TABLE: bool, const ROOM: bool>(
+fn up_voice<const TABLE: u8, const ROOM: bool>(
     word: u32,
     record: &mut Record,
     out: &mut [u32],
@@ -597,13 +607,13 @@ fn up_voice<const TABLE: bool, const ROOM: bool>(
 
 /// A Note On with a velocity presses its key, and every other note lifts it, if keys can be seen.
 #[inline(always)]
-fn up_note<const TABLE: bool>(word: u32, record: &mut Record, out: &mut [u32]) -> Done {
+fn up_note<const TABLE: u8>(word: u32, record: &mut Record, out: &mut [u32]) -> Done {
     let velocity = word & 127;
     let status = if velocity == 0 { 0x8 } else { word >> 20 & 15 };
     let scaled = SCALED_7_TO_16[velocity as usize];
     let words = [midi_2_word(word, status, word & 0x7F00), scaled << 16];
     let done = send(1, words, out);
-    if TABLE == LENT && done.answer == SENT {
+    if TABLE != OWN && done.answer == SENT {
         record.set_key(word >> 8 & 127, status == 0x9);
     }
     done

@@ -1003,6 +1003,46 @@ fn a_run_taken_up_again_gives_the_whole() {
     }
 }
 
+/// Long runs ask for all records at once if they can, and short ones for each.
+#[test]
+fn a_long_run_is_its_calls_one_after_another_over_sound_and_other_tables() {
+    let mut thrown = Thrown(12);
+    let (mut answers, mut long) = ([0; 11], 0);
+    for _ in 0..1_500 {
+        let mut start = thrown.marked_table();
+        for _ in 0..thrown.number(3) {
+            let (kind, numbers) = NOT_SOUND_RECORDS[thrown.number(16) as usize];
+            start[thrown.of(&[0, 1, 0xFF, 0x5A]) as usize] = record(kind, numbers);
+        }
+        let stream = [(); 4].map(|_| thrown.stream()).concat();
+        long += usize::from(stream.len() >= LONG_RUN);
+        let room = thrown.room(stream.len());
+        let (mut table, mut out) = (start, vec![UNTOUCHED; room]);
+        let done = run_up(&stream, &mut table, &mut out);
+        let (mut other, mut other_out) = (start, vec![UNTOUCHED; room]);
+        let (mut read, mut written, mut answer) = (0, 0, SENT);
+        while read < stream.len() {
+            let one = up(&stream[read..], &mut other, &mut other_out[written..]);
+            read += one.read;
+            written += one.written;
+            if one.read == 0 {
+                answer = one.answer;
+                break;
+            }
+        }
+        assert_eq!(
+            (done.answer, done.read, done.written),
+            (answer, read, written)
+        );
+        assert!(table == other && out == other_out);
+        answers[answer as usize] += 1;
+    }
+    assert!(long > 500 && long < 1_400);
+    for answer in [SENT, NOT_SOUND, OUTPUT_SHORT] {
+        assert!(answers[answer as usize] > 50);
+    }
+}
+
 /// A record of which only these keys are known.
 fn keyed(keys: &[u32]) -> Record {
     let mut record = empty();
