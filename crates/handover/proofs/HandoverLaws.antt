@@ -39,10 +39,10 @@ own-owner (suc (suc (suc h))) l = absurd (omega (arith, l))
 module _ (owners : List ℕ) (n group host : ℕ) where
   -- an answer of 0: the table is whole, and there are the group and the host
   module _ (e : giveAnswer owners n group host ≡ answered) where
-    can : (n ≡ wholeTable) × (canBeGiven owners n group host ≡ true)
+    can : (n ≡ wholeTable) × (canBeGiven owners group host ≡ true)
     unfolding giveAnswer
     can =
-        let z = taken (eqb n wholeTable) (canBeGiven owners n group host) e in
+        let z = taken (eqb n wholeTable) (canBeGiven owners group host) e in
         (eqb-true n wholeTable (z .0), z .1)
 
     pub given-whole : n ≡ wholeTable

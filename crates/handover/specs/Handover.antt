@@ -29,15 +29,15 @@ channels = 16
 abbrev pub firstOf : ℕ → ℕ
 firstOf group = recordNumber (record { 0 = group }) (record { 0 = 0 })
 
+-- there is such a group, and the list has it; the host is one of the two, or nobody
+abbrev pub canBeGiven : List ℕ → ℕ → ℕ → Bool
+canBeGiven owners group host = leb group 15 && ltb group (length owners) && leb host 2
+
 -- Giving, with a table of n records.
 module _ (owners : List ℕ) (n group host : ℕ) where
-  -- there is such a group, and the list has it; the host is one of the two, or nobody
-  abbrev pub canBeGiven : Bool
-  canBeGiven = leb group 15 && ltb group (length owners) && leb host 2
-
   -- 10 for a table that is not whole, and then 24
   unfoldable pub giveAnswer : ℕ
-  giveAnswer = cond (eqb n wholeTable) (cond canBeGiven answered outOfRange) noTable
+  giveAnswer = cond (eqb n wholeTable) (cond (canBeGiven owners group host) answered outOfRange) noTable
 
   -- a group changes hands where it is given to another than has it
   unfoldable pub changesHands : Bool

@@ -1,6 +1,6 @@
 // What a caller uses: one call and a run, up and down, over the table that the caller lends, what may
-// be asked of the table, its coarse marks, and one channel's packets alone, under the names that C and
-// Rust link (include/quernbrae.h).
+// be asked of the table, its coarse marks, all that for two hosts that share it, and one channel's
+// packets alone, under the names that C and Rust link (include/quernbrae.h).
 //
 // No function has a `requires`. Each contract gives the report, the table and the output at exit by
 // the definitions of the crates below, on every input.
