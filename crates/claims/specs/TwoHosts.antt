@@ -1,5 +1,5 @@
--- Two hosts on one box (RULES 2.6, 5.10 and 9.4; 02 M-107): what is refused to a host, that neither sees anything of the
--- other, what a change of hands leaves, and demands 2 and 3 for one host.
+-- Two hosts on one box (RULES 2.6, 5.10 and 9.4; 02 M-107): what is refused to a host, that neither sees anything of
+-- the other, what a change of hands leaves, and demands 2 and 3 for one host.
 use Prim.Native.Nat.{ℕ, _/_}
 use mathlib.Core.Path.{_≡_}
 use mathlib.Core.Bool.{Bool, true, false, cond, not, _&&_}
@@ -83,8 +83,8 @@ casesGive owners t group host =
     ∷ case outOfRange (not (leb group 15 && ltb group (length owners) && leb host 2))
     ∷ []
 
--- What happens at the box: a host calls or runs, up or down, with an output of so many words; it asks for keys; it marks
--- a channel; or, between all that, a group is given to a host.
+-- What happens at the box: a host calls or runs, up or down, with an output of so many words; it asks for keys; it
+-- marks a channel; or, between all that, a group is given to a host.
 pub data Event : Type 0 where
   callUp runUp callDown runDown : ℕ → ℕ → List ℕ → Event
   asks : ℕ → ℕ → ℕ → Event

@@ -1,4 +1,5 @@
--- The screening of a packet: the refusals before the act, in the order of RULES 3.2, with the rules of a room and of a fence.
+-- The screening of a packet: the refusals before the act, in the order of RULES 3.2, with the rules of a room and of
+-- a fence.
 use Prim.Native.Nat.{ℕ}
 use mathlib.Core.Bool.{Bool, true, false, cond, not, _&&_, _||_}
 use mathlib.Core.List.{List, [], _∷_}
