@@ -1,8 +1,8 @@
 -- What the functions over the table say at exit, from what `treat` says; and the call down at the start of the words.
 -- Assumes nothing.
-use mathlib.Core.Path.{_≡_, refl}
+use mathlib.Core.Path.{_≡_, refl, ap, _∙_}
 use Prim.Native.Nat.{ℕ}
-use mathlib.Core.Bool.{true, false}
+use mathlib.Core.Bool.{Bool, true, false, cond}
 use mathlib.Core.List.{List}
 use native.Mathlib.Nat.{sub-zero, zero-add}
 use lib.ListN.{length}
@@ -19,7 +19,8 @@ use Rattle.hosts.specs.Hosts.{hostJob, hostOneUp, hostRunUp}
 use Rattle.voice.specs.Packet.{callDownBy, oneDownBy, packetDownBy}
 use Rattle.voice.specs.Turn.{next, outputOf, reportOf}
 use Rattle.table.specs.Table.{beginnersOneUp, beginnersRunUp, oneUp, runUp, tableAfter}
-use Rattle.table.specs.Job.{asked, beginnersCall, beginnersRun, oneCall, tableStep, wholeRun}
+use Rattle.table.specs.Job.{asked, askedReport, beginnersCall, beginnersRun, oneCall, runTold, tableStep}
+use Rattle.table.proofs.Asking.{told-once, told-run}
 
 -- of a call or a run that was asked for, and the one that is promised, each with its report
 abbrev pub Told : (Ran (ℕ × List Record) → Done) → Ran (ℕ × List Record) → Ran (ℕ × List Record) → List ℕ → Type 0
@@ -30,9 +31,18 @@ pub one-said : (ws : List ℕ) (tb : List Record) (out : List ℕ)
 unfolding asked tableStep oneUp
 one-said ws tb out = (refl, refl, refl)
 
-pub run-said : (ws : List ℕ) (tb : List Record) (out : List ℕ) → Told reported (asked wholeRun (length out) tb ws) (runUp (length out) tb ws) out
-unfolding asked tableStep runUp
-run-said ws tb out = (refl, refl, refl)
+-- a run by the job that it is told, whether that knows the records or asks them
+pub run-said : (ws : List ℕ) (tb : List Record) (out : List ℕ) → let j = runTold (length ws) tb in
+    (askedReport j ws (asked j (length out) tb ws) ≡ reported (runUp (length out) tb ws))
+    × (tableAfter (asked j (length out) tb ws) ≡ tableAfter (runUp (length out) tb ws))
+    × (atStart (asked j (length out) tb ws .sends) out ≡ atStart (runUp (length out) tb ws .sends) out)
+run-said ws tb out =
+    let e = told-run (length ws) (length out) tb ws in
+    let a : Ran (ℕ × List Record) = asked (runTold (length ws) tb) (length out) tb ws in (
+      ap (λ (b : Bool). cond b (reportedCall (packet ws) a) (reported a)) (told-once (length ws) tb) ∙ ap reported e,
+      ap tableAfter e,
+      ap (λ (r : Ran (ℕ × List Record)). atStart (r .sends) out) e,
+    )
 
 pub beginners-one-said : (ws : List ℕ) (tb : List Record) (out : List ℕ)
     → Told (reportedCall (packet ws)) (asked beginnersCall (length out) tb ws) (beginnersOneUp (length out) tb ws) out

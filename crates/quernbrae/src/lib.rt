@@ -55,7 +55,7 @@ pub extern "C" fn quernbrae_run_up(words: &[u32], table: &mut [Record], out: &mu
     ensures output { λ _. ⌜ now (out .exit) ≡ atStart
         (runUp (length (now (out .entry))) (now (table .entry)) (now (words .entry)) .sends) (now (out .entry)) ⌝ }
 {
-    treat(words, table::whole_run(), table, out)
+    treat(words, table::run_told(words.len(), table), table, out)
 }
 
 // One call up in the beginners' room, where only some packets may pass.

@@ -72,6 +72,10 @@ reserved t = (leb 6 t && leb t 12) || eqb t 14
 abbrev pub checking : Bool → List Field → ℕ → Screened
 checking statusGood fs good = cond (not statusGood) (answering badStatus) (placed (badPlace fs) good)
 
+-- no message type: where this is the wrong one, voice messages of both protocols pass
+abbrev pub neitherType : ℕ
+neitherType = 16
+
 -- Of a packet, or of the empty part where none is whole; `wrong` is the message type of the other protocol's voice
 -- messages.
 unfoldable pub screenBy : Rule → ℕ → List ℕ → Screened

@@ -34,6 +34,9 @@ pub struct Screened {
 // The packet goes on to the act.
 pub const GOES_ON: u32 = 0;
 
+// No message type: where this is the wrong one, voice messages of both protocols pass.
+pub const NEITHER_TYPE: u32 = 16;
+
 // What is asked of a packet besides: of a good one whether it is for the beginners' room; and of one
 // with a group whether that lies behind the fence, where the bits of `groups` are set.
 pub struct Rule {

@@ -37,8 +37,41 @@ pub const NO_ROOM: u32 = 9;
 // Going up: the table is not a whole one.
 pub const NO_TABLE: u32 = 10;
 
+// From a cable: a byte or a message that is dropped.
+pub const DROPPED: u32 = 11;
+
+// From a cable: an exclusive is cut off, and closed with the bytes that it has.
+pub const CUT_OFF: u32 = 12;
+
 // Of a group that does not belong to the host.
 pub const NOT_YOURS: u32 = 13;
+
+// Of a maker identity: the other form has none for it.
+pub const NO_COUNTERPART: u32 = 14;
+
+// Of a chain: the packet does not go on where the chain stands.
+pub const OUT_OF_TURN: u32 = 15;
+
+// Of a chain: one packet more than it may have.
+pub const TOO_MANY_PACKETS: u32 = 16;
+
+// Of Flex Data: an address that there is none of.
+pub const BAD_ADDRESS: u32 = 17;
+
+// Of a chain: the packet's bytes do not fit in its part.
+pub const TOO_LONG: u32 = 18;
+
+// Of a recording: it does not begin with the mark.
+pub const WRONG_MARK: u32 = 19;
+
+// Of a recording: its version is another one.
+pub const WRONG_VERSION: u32 = 20;
+
+// Of a pitch: a bend range that is not read.
+pub const BAD_RANGE: u32 = 21;
+
+// Of a pitch: the note does not sound.
+pub const NOT_SOUNDING: u32 = 22;
 
 // Going up under the beginners' rule: good, but not for this room.
 pub const NOT_FOR_ROOM: u32 = 23;
@@ -48,6 +81,9 @@ pub const ANSWERED: u32 = 0;
 
 // Of a question: a group or a channel above 15.
 pub const OUT_OF_RANGE: u32 = 24;
+
+// To a cable: a packet that is of another type, or of another group.
+pub const NOT_FOR_CABLE: u32 = 25;
 
 // What a call or a run reports. The place is that of the first bad field, and 0 with every answer but
 // `BAD_DATA`.

@@ -1,6 +1,7 @@
 pub mod TableLaws
 pub mod KeptLaws
 pub mod KnownLaws
+pub mod Asking
 pub mod StepLaws
 pub mod Values
 pub mod Turns

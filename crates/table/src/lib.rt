@@ -2,8 +2,9 @@
 // record is read for each packet, and read and stored again only where the packet has an effect on it.
 // The loop never copies the table.
 //
-// `treat` has no `requires`, and promises the call or the run itself, on every input. `run_from`
-// lends it a table that the caller has by value.
+// `treat` has no `requires`, and promises the call or the run itself, on every input. What it is to do
+// is a job; `run_told` makes that of a run over a table that may be known to be sound. `run_from` lends
+// `treat` a table that the caller has by value.
 use channel::RECORDS;
 use channel::Record;
 use effect::LEAVES;
@@ -26,7 +27,7 @@ ghost use Rattle.stream.specs.Report.{counting, placing};
 ghost use Rattle.channel.specs.Record.{empty, wholeTable};
 ghost use Rattle.table.specs.Table.{tableAfter};
 ghost use Rattle.table.specs.Job.{asked, askedReport, beginnersCall, beginnersRun, knownRun, oneCall};
-ghost use Rattle.table.specs.Job.{recordStep, tableStep, wholeRun};
+ghost use Rattle.table.specs.Job.{recordStep, runTold, tableStep, wholeRun};
 ghost use Rattle.table.specs.Next.{outputAfterCall, reportAfterCall, stateAfter, turnAt};
 
 // What the loop is told: whether it is to make one call only, whether its records are known to be
@@ -120,6 +121,30 @@ pub fn beginners_run() -> Job
             groups: 0,
         },
     }
+}
+
+// From so many words on, a run asks all records before its first packet; a shorter one costs less if it asks at each
+// voice message.
+const LONG_RUN: usize = 512;
+
+// A run, by whether its records are known to be sound.
+fn run_knowing(known: bool) -> Job
+    ensures { λ r. ⌜ r ≡ cond known knownRun wholeRun ⌝ }
+{
+    if known { known_run() } else { whole_run() }
+}
+
+// The run of so many words over a table: a long one asks all records here, until one is not sound.
+pub fn run_told(words: usize, table: &[Record]) -> Job
+    ensures { λ r. ⌜ r ≡ runTold words (now (table .entry)) ⌝ }
+{
+    let mut known = LONG_RUN <= words;
+    let mut i = 0;
+    while known & (i < table.len()) {
+        known = table[i].is_sound();
+        i = i + 1;
+    }
+    run_knowing(known)
 }
 
 // The record at a place, and an empty one past the end.
