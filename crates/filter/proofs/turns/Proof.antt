@@ -1,8 +1,7 @@
--- `filter::turns` meets its contract. The loop's invariant: each buffer keeps its length, and the bytes left fit in
--- theirs. The measure is the turns left. Assumes nothing.
-use Prim.Native.Nat.{_≤_, _^_}
+-- `filter::turns` is safe and ends. The loop's invariant: each buffer keeps its length. The measure is the turns left.
+-- Assumes nothing.
+use Prim.Native.Nat.{_^_}
 use mathlib.Core.Path.{_≡_, _∙_}
-use native.Mathlib.Omega.{arith}
 use borrow.Author.Needs.{needs}
 use lib.ListN.{length}
 use Rattle.filter.proofs.turns.Statement.{statement}
@@ -11,7 +10,6 @@ use Rattle.filter.proofs.turns.Tie as tie
 abbrev Inv-loop : tie.InvT-loop
 Inv-loop program bytes₀ words₀ sent₀ text₀ s₀ more₀ bytes words sent text s more =
     (length bytes ≡ 2 ^ 15) × (length words ≡ 2 ^ 13) × (length sent ≡ 2 ^ 14) × (length text ≡ 2 ^ 16)
-    × (s .left ≤ 2 ^ 15)
 
 abbrev μ-loop : tie.MeasureT-loop
 μ-loop program bytes₀ words₀ sent₀ text₀ s₀ more₀ bytes words sent text s more = more
@@ -25,7 +23,6 @@ loop-again c =
       t .kept .1 .1 .1 .0 ∙ i .1,
       t .kept .1 .1 .1 .1 .0 ∙ i .2,
       t .kept .1 .1 .1 .1 .1 .0 ∙ i .3,
-      omega (arith, t .ensures, t .kept .1 .1 .0, i .0),
     )
 
 pub turns-spec : {M : Type 1} → statement M
