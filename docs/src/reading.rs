@@ -2,18 +2,36 @@
 //! Read from the build specification, the requests that amend it, and M2-104-UM 1.1.1, sections 7.2
 //! to 7.7 and Appendix D.
 
+mod cable;
+mod chains;
+mod desk;
 mod hosts;
+mod identity;
 mod pupil;
+mod rescue;
+mod screening;
 
 #[cfg(test)]
 #[path = "reading_tests.rs"]
 mod tests;
 
+pub use cable::{
+    cable_idle, export, export_filter, import, import_filter, run_export, run_import, Cable,
+    Imported, CUT_OFF, DROPPED, NOT_FOR_CABLE,
+};
+pub use chains::{
+    chains_closed, collect, whole, Chain, Chains, Collected, BAD_ADDRESS, NO_CHAIN, OUT_OF_TURN,
+    TOO_LONG, TOO_MANY_PACKETS,
+};
+pub use desk::{desk, exact_decimal, Base, Desk, Display, Shown, BAD_RANGE, NOT_SOUNDING};
 pub use hosts::{
     give_group, host_down, host_keys_down, host_mark_coarse, host_run_down, host_run_up, host_up,
     GIVEN, NOBODY, NOT_YOUR_GROUP,
 };
+pub use identity::{identity_new, identity_old, Identity, Maker, NO_COUNTERPART};
 pub use pupil::{only, only_filter};
+pub use rescue::{rescue, Rescued, HEADER, WRONG_MARK, WRONG_VERSION};
+pub use screening::screened;
 
 // The answers of a call, by their numbers in the build specification.
 pub const SENT: u32 = 0;
@@ -37,6 +55,12 @@ pub const ABOVE_15: u32 = 24;
 
 // The marking call has this one, and 8, 10 and 24.
 pub const SET: u32 = 0;
+
+// The statuses of exclusive packets, which are the formats of Flex Data as well.
+pub const COMPLETE: u32 = 0;
+pub const START: u32 = 1;
+pub const CONTINUE: u32 = 2;
+pub const END: u32 = 3;
 
 /// The number of a record that is not there.
 pub const MISSING: u8 = 255;
@@ -399,6 +423,34 @@ fn check_four_words(first: u32) -> u32 {
     }
 }
 
+fn check_voice(word: u32) -> u32 {
+    match voice_data_bits(word >> 20 & 15) {
+        None => BAD_STATUS,
+        Some(data_bits) if word & data_bits != 0 => BAD_DATA,
+        Some(_) => SENT,
+    }
+}
+
+fn check_voice_2(first: u32, second: u32) -> u32 {
+    match first >> 20 & 15 {
+        7 => BAD_STATUS,
+        _ if data_in_range(first, second) => SENT,
+        _ => BAD_DATA,
+    }
+}
+
+/// Which answer a whole packet gets where neither protocol is wrong.
+fn check_packet(packet: &[u32]) -> u32 {
+    match *packet {
+        [word] if word >> 28 == 2 => check_voice(word),
+        [word] => check_one_word(word),
+        [first, second] if first >> 28 == 4 => check_voice_2(first, second),
+        [first, second] => check_two_words(first, second),
+        [first, ..] => check_four_words(first),
+        [] => CUT,
+    }
+}
+
 /// The place of a packet's own record: 16 times group plus channel.
 fn record_number(word: u32) -> usize {
     (word >> 20 & 0xF0 | word >> 16 & 0x0F) as usize
@@ -572,6 +624,16 @@ fn up_packet<const TABLE: u8, const ROOM: bool>(
     }
 }
 
+/// The highest bits of the data bytes that a MIDI 1.0 voice with this status has.
+#[inline(always)]
+fn voice_data_bits(status: u32) -> Option<u32> {
+    match status {
+        0x8..=0xB | 0xE => Some(0x8080),
+        0xC | 0xD => Some(0x8000),
+        _ => None,
+    }
+}
+
 #[inline(always)]
 fn up_voice<const TABLE: u8, const ROOM: bool>(
     word: u32,
@@ -579,10 +641,8 @@ fn up_voice<const TABLE: u8, const ROOM: bool>(
     out: &mut [u32],
 ) -> Done {
     let status = word >> 20 & 15;
-    let data_bits = match status {
-        0x8..=0xB | 0xE => 0x8080,
-        0xC | 0xD => 0x8000,
-        _ => return refused(BAD_STATUS, 1),
+    let Some(data_bits) = voice_data_bits(status) else {
+        return refused(BAD_STATUS, 1);
     };
     if word & data_bits != 0 {
         return bad_data(&[word]);

@@ -1,11 +1,20 @@
-//! Writes the stored arguments, the standard input and the expected standard output of the five
-//! programs. Everything follows from the tables and seeds of this file, from the data entries and
-//! from the scenes for the panel.
+//! Writes the stored arguments, the standard input and the expected standard output of the programs,
+//! and the recording that one of them reads. Everything follows from the tables and seeds of this
+//! file, from the data entries, from the scenes for the panel and for the desk, from the bytes of a
+//! cable, from the pieces of messages and from the recordings.
 
+mod bytes;
 mod entries;
+mod imports;
 mod packets;
+mod pieces;
+mod recordings;
 mod scenes;
+mod stored_recording;
+mod tunings;
+mod wholes;
 
+use bytes::regroup;
 use entries::{entry, every_value, Entries, ENTRIES};
 use packets::{
     bad_packet, every_place, packet, packet_about_data, packet_about_keys, place_of, record_number,
@@ -37,6 +46,8 @@ struct Plan {
     last: fn(&mut Dice) -> Vec<u32>,
     /// For each edge the type of the packet across it, and its words before the edge.
     straddles: [(u32, usize); 3],
+    /// The last touch to the whole packets.
+    settle: fn(&mut Dice, &mut [u32]),
     cut_end: &'static [u8],
     /// The output for an input, from the table that the arguments give.
     output: fn(&[u8], [Record; 256]) -> Vec<u8>,
@@ -89,6 +100,7 @@ fn listing() -> Plan {
         mixed: packet_about_data,
         last: |_| vec![],
         straddles: [(0xD, 1), (0xB, 2), (0x3, 1)],
+        settle: |_, _| (),
         cut_end: &[0xB0, 0, 0, 0, 0, 0, 0, 0, 0x20],
         output: reading::listing,
         check_output: |_| (),
@@ -173,6 +185,46 @@ fn only() -> Plan {
     }
 }
 
+/// Another group than channel, and the widest range, which gives the longest numbers.
+const TUNED: [&str; 3] = ["10", "03", "127"];
+const TUNED_PLACE: u32 = 0x0A03_0000;
+
+fn desk() -> Plan {
+    Plan {
+        name: "desk",
+        arguments: &TUNED,
+        starts_from: |_| reading::marked_table(&[]),
+        seed: 7,
+        examples: &EXAMPLES_DOWN,
+        every_case: |_| tunings::every_scene(TUNED_PLACE),
+        types: &TYPES_DOWN,
+        mixed: |dice, message_type| tunings::packet_about_tuning(dice, message_type, TUNED_PLACE),
+        straddles: [(0x4, 1), (0xF, 3), (0xB, 2)],
+        // A word of two, which looks like a Note On of the channel, and the start of the other one.
+        cut_end: &[0x4A, 0x93, 0x3C, 0x03, 0x80, 0x00],
+        output: |bytes, _| tuned(bytes).into_bytes(),
+        check_output: check_desk,
+        call: |words, _| reading::screened(&words[..size(words[0])]),
+        answers: &[0, 4, 6, 7],
+        checked: &[1, 2, 3, 4],
+        ..listing()
+    }
+}
+
+fn tuned(bytes: &[u8]) -> String {
+    let display = reading::desk(bytes, &TUNED).expect("a group, a channel and units");
+    display.stdout
+}
+
+/// Fails unless the lines show what the scenes are for. The first are of the request's example.
+fn check_desk(output: &[u8]) {
+    let text = std::str::from_utf8(output).expect("the lines are text");
+    assert!(text.starts_with("1 69 7.9 69.25\n1 69 7.9 132.75\n0\n1 69 note 132.5\n"));
+    let mut pictures = tunings::Pictures::default();
+    pictures.count(text);
+    assert!(pictures.summary("desk"));
+}
+
 /// Every status with any data, on the channel and on those that share its group, its number or none.
 fn pupil_and_neighbours(dice: &mut Dice) -> Vec<u32> {
     let mut stream = vec![];
@@ -196,6 +248,67 @@ fn check_only(output: &[u8]) {
     }
     println!("only: packets by status {statuses:?}, with bad data {bad}");
     assert!(statuses.iter().all(|count| *count > 0) && bad > 0);
+}
+
+const EXAMPLES_EXPORT: [u32; 14] = [
+    0x2A90_3C40,
+    0x2AC0_05FF,
+    0x1AF8_0000,
+    // one exclusive in four packets, one of them without bytes, and one of no bytes at all
+    0x3A12_7E7F,
+    0,
+    0x3A20_0000,
+    0,
+    0x3A21_0600,
+    0,
+    0x3A31_0100,
+    0,
+    0x3A00_0000,
+    0,
+    // another group
+    0x2B90_3C40,
+];
+
+const TYPES_EXPORT: [u32; 32] = [
+    2, 2, 2, 2, 2, 2, 2, 2, 2, 2, 1, 1, 1, 1, 3, 3, 3, 3, 3, 3, 0, 4, 5, 6, 7, 8, 9, 0xA, 0xB, 0xC,
+    0xD, 0xF,
+];
+
+/// The group of the stored cable that is written to.
+const EXPORT_GROUP: [&str; 1] = ["10"];
+
+fn export() -> Plan {
+    Plan {
+        name: "export",
+        arguments: &EXPORT_GROUP,
+        starts_from: |_| reading::marked_table(&[]),
+        seed: 6,
+        examples: &EXAMPLES_EXPORT,
+        types: &TYPES_EXPORT,
+        mixed: packet,
+        straddles: [(0x3, 1), (0xC, 2), (0xE, 1)],
+        settle: |dice, stream| regroup(dice, 10, stream),
+        // What is there of the packet looks like one that has bytes.
+        cut_end: &[0x3A, 0x16, 1, 2, 0x2A, 0x90, 0x3C],
+        output: |bytes, _| reading::export_filter(bytes, &EXPORT_GROUP).expect("a group"),
+        check_output: check_export,
+        call: |words, _| reading::export(10, words, &mut [0; 8]),
+        answers: &[0, 1, 4, 6, 7, 25],
+        ..listing()
+    }
+}
+
+/// Fails unless every status byte that a cable can be sent is there.
+fn check_export(output: &[u8]) {
+    let mut times = [0; 256];
+    output
+        .iter()
+        .for_each(|byte| times[usize::from(*byte)] += 1);
+    println!("export: bytes from F0 on {:?}", &times[0xF0..]);
+    for (byte, count) in times.iter().enumerate() {
+        let is_sent = !matches!(byte, 0xF4 | 0xF5 | 0xF9 | 0xFD);
+        assert_eq!(*count > 0, is_sent, "{byte:02X}");
+    }
 }
 
 fn push(dice: &mut Dice, message_type: u32, stream: &mut Vec<u32>) {
@@ -322,39 +435,52 @@ fn whole_packets(plan: &Plan) -> Vec<u32> {
         let words = bad_packet(&mut dice, bad);
         stream.extend(&words[..size(words[0])]);
     }
-    for (edge, (message_type, before)) in edges().zip(plan.straddles) {
-        assert!(
-            stream.len() + 8 < edge,
-            "{}: no room before an edge",
-            plan.name
-        );
-        while stream.len() + 8 < edge {
-            push_mixed(&mut dice, plan, &mut stream);
-        }
-        // Two words each up to the last packet: a rest carried over moves a reader's later edges.
-        if (edge - before - stream.len()) % 2 == 1 {
-            push(&mut dice, 1, &mut stream);
-        }
-        while stream.len() + before < edge {
-            push(&mut dice, 3, &mut stream);
-        }
-        push(&mut dice, message_type, &mut stream);
+    for (edge, across) in edges().zip(plan.straddles) {
+        straddle(&mut dice, edge, across, &mut stream, |dice, stream| {
+            push_mixed(dice, plan, stream)
+        });
     }
     for _ in 0..AFTER_LAST_EDGE {
         push_mixed(&mut dice, plan, &mut stream);
     }
     stream.extend((plan.last)(&mut dice));
+    (plan.settle)(&mut dice, &mut stream);
     stream
+}
+
+/// Fills a stream up to an edge, across which a packet of a type stands with some words before it.
+fn straddle(
+    dice: &mut Dice,
+    edge: usize,
+    (message_type, before): (u32, usize),
+    stream: &mut Vec<u32>,
+    mut push_mixed: impl FnMut(&mut Dice, &mut Vec<u32>),
+) {
+    assert!(stream.len() + 8 < edge, "no room before an edge");
+    while stream.len() + 8 < edge {
+        push_mixed(dice, stream);
+    }
+    // Two words each up to the last packet: a rest carried over moves a reader's later edges.
+    if (edge - before - stream.len()) % 2 == 1 {
+        push(dice, 1, stream);
+    }
+    while stream.len() + before < edge {
+        push(dice, 3, stream);
+    }
+    push(dice, message_type, stream);
 }
 
 fn edges() -> impl Iterator<Item = usize> {
     (1..).map(|count| count * BUFFER)
 }
 
+/// The answers of these programs are below this number.
+const ANSWERS: usize = 26;
+
 /// What occurs in a stream.
 struct Seen {
     types: [usize; 16],
-    answers: [usize; 11],
+    answers: [usize; ANSWERS],
     places: Named,
     entries: Entries,
     /// The sizes of the packets across an edge.
@@ -364,7 +490,7 @@ struct Seen {
 fn see(plan: &Plan, stream: &[u32]) -> Seen {
     let mut seen = Seen {
         types: [0; 16],
-        answers: [0; 11],
+        answers: [0; ANSWERS],
         places: Named::new(),
         entries: Entries::new(),
         straddled: vec![],
@@ -391,6 +517,15 @@ fn see(plan: &Plan, stream: &[u32]) -> Seen {
     seen
 }
 
+/// The answers that came, each with how often it did.
+fn times(answers: &[usize]) -> String {
+    let came = (0..).zip(answers).filter(|(_, count)| **count > 0);
+    let shown: Vec<_> = came
+        .map(|(answer, count): (u32, _)| format!("{answer} x{count}"))
+        .collect();
+    shown.join(", ")
+}
+
 /// Fails unless the stream has what the plan promises of it.
 fn check(plan: &Plan, stream: &[u32]) {
     let mut seen = see(plan, stream);
@@ -403,8 +538,9 @@ fn check(plan: &Plan, stream: &[u32]) {
     assert_eq!(seen.straddled, [2, 3, 4]);
     println!("{}: packets by type {:?}", plan.name, seen.types);
     println!(
-        "{}: answers {:?}, and 3 at the end",
-        plan.name, seen.answers
+        "{}: answers {}, and 3 at the end",
+        plan.name,
+        times(&seen.answers)
     );
     for message_type in plan.checked {
         let named = seen.places.of_type(*message_type);
@@ -433,7 +569,11 @@ fn write(plan: &Plan, folder: &Path) -> std::io::Result<()> {
 
 fn main() -> std::io::Result<()> {
     let folder = std::env::args().nth(1).expect("usage: recipe FOLDER");
-    [listing(), up(), down(), panel(), only()]
+    let folder = Path::new(&folder);
+    [listing(), up(), down(), panel(), only(), export(), desk()]
         .iter()
-        .try_for_each(|plan| write(plan, Path::new(&folder)))
+        .try_for_each(|plan| write(plan, folder))?;
+    imports::write(folder)?;
+    wholes::write(folder)?;
+    stored_recording::write(folder)
 }
