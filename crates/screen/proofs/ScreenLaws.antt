@@ -1,7 +1,7 @@
 -- Laws of the screening: a MIDI 1.0 voice message is screened by its one word; only a cut packet is refused by an answer
 -- that stops a run; the place goes with the answer; what passes, also under a rule. Assumes nothing.
 use mathlib.Core.Path.{_≡_, refl, sym, _∙_}
-use mathlib.Core.Bool.{Bool, true, false, true≢false, cond, not}
+use mathlib.Core.Bool.{Bool, true, false, true≢false, cond, not, _&&_}
 use mathlib.Core.List.{List, [], _∷_}
 use Prim.Native.Nat.{ℕ}
 use native.Mathlib.Omega.{arith}
@@ -19,7 +19,8 @@ use Rattle.stream.specs.Call.{Call, refused}
 use Rattle.stream.specs.Report.{placeTold}
 use Rattle.screen.specs.declared.Rule.{Rule}
 use Rattle.screen.specs.declared.Screened.{Screened}
-use Rattle.fields.specs.Check.{Field, badPlace, badPlaceOf, checkedFields, goodFields, goodStatus}
+use Rattle.fields.specs.Check.{Field, badPlace, badPlaceOf, checkedFields, goodFields, goodStatus, voice1Fields}
+use Rattle.fields.specs.Check.{voice1Status}
 use Rattle.screen.specs.Screen.{admitted, answering, beginnersRule, checkVoice1, checking, forBeginners}
 use Rattle.screen.specs.Screen.{fencedRule, goesOn, outside, reserved, ruled, screen, screenBy, screenVoice1, screened}
 
@@ -38,6 +39,24 @@ pub screen-word : (rule : Rule) (w : ℕ) → messageType w ≡ 2 → screenVoic
 unfolding screenVoice1
 screen-word rule w h =
     by-bool (ruled rule) (λ e. rw e) (λ e. rw e (sym (screen-voice1 w h) ∙ sym (unruled rule voice2 (w ∷ []) e)))
+
+-- its check finds nothing exactly where its status and its fields are good
+pub voice1-answer : (w : ℕ) → eqb (checkVoice1 w .answer) goesOn ≡ (voice1Status w && goodFields (voice1Fields w))
+unfolding checkVoice1
+voice1-answer w = go (voice1Status w) (eqb (badPlace (voice1Fields w)) 0)
+  where
+    go : (s f : Bool)
+        → eqb (cond (not s) (answering badStatus) (cond f (answering goesOn) (record { answer = badData; place = badPlace (voice1Fields w) })) .answer) goesOn
+        ≡ (s && f)
+    go true true = refl
+    go true false = refl
+    go false true = refl
+    go false false = refl
+
+-- the same under any rule, where that asks nothing
+pub unruled-word : (rule : Rule) (w : ℕ) → ruled rule ≡ false → screenVoice1 rule w ≡ checkVoice1 w
+unfolding screenVoice1
+unruled-word rule w e = rw e
 
 -- what a good packet is answered with goes on, or is not for this room
 admits : (P : ℕ → Type 0) (rule : Rule) (w : ℕ) → P goesOn → P notForRoom → P (admitted rule w)

@@ -17,11 +17,12 @@ use ump::message_type;
 use ump::word_at;
 ghost use mathlib.Core.Path.{_≡_};
 ghost use Prim.Native.Nat.{_<_};
+ghost use lib.Dec.{eqb};
 ghost use Rattle.fields.specs.Check.{checkedFields, goodStatus};
 ghost use Rattle.screen.specs.Screen.{admitted, answering, beginnersController};
-ghost use Rattle.screen.specs.Screen.{checkVoice1, checking, forBeginners, groupBit, grouped};
+ghost use Rattle.screen.specs.Screen.{checkVoice1, checking, forBeginners, goesOn, groupBit, grouped};
 ghost use Rattle.screen.specs.Screen.{openRule, outside, placed, reserved, screenBy};
-ghost use Rattle.screen.specs.Screen.{screenVoice1};
+ghost use Rattle.screen.specs.Screen.{ruled, screenVoice1};
 ghost use Rattle.screen.specs.Screen;
 
 // What the screening finds of a packet: the answer that refuses it, or `GOES_ON`; and the place of the
@@ -168,6 +169,13 @@ fn check_voice1(w: u32) -> Screened
     }
 }
 
+// Whether a MIDI 1.0 voice message goes on where no rule asks anything: the check without what it finds.
+pub fn voice1_goes_on(w: u32) -> bool
+    ensures { λ r. ⌜ r ≡ eqb (checkVoice1 w .answer) goesOn ⌝ }
+{
+    fields::is_voice1_status(w) & fields::is_good_voice1(w)
+}
+
 // A packet, or the empty part where none is whole, where voice messages of the type `wrong` are
 // refused, under a rule.
 pub fn screen_by(rule: Rule, wrong: u32, packet: &[u32]) -> Screened
@@ -190,11 +198,18 @@ pub fn screen_by(rule: Rule, wrong: u32, packet: &[u32]) -> Screened
     check(rule, w, word_at(packet, 1))
 }
 
+// Whether a rule asks anything.
+pub fn is_ruled(rule: Rule) -> bool
+    ensures { λ r. ⌜ r ≡ ruled rule ⌝ }
+{
+    rule.beginners | rule.fenced
+}
+
 // A MIDI 1.0 voice message going up under a rule, by its one word.
 pub fn screen_voice1(rule: Rule, w: u32) -> Screened
     ensures { λ r. ⌜ r ≡ screenVoice1 rule w ⌝ }
 {
-    if rule.beginners | rule.fenced {
+    if is_ruled(rule) {
         let one = [w];
         screen_by(rule, MIDI2_VOICE, &one)
     } else {

@@ -1,6 +1,6 @@
 -- What a call in the middle of a stream comes to: a refusal, a stop, words sent, and a message with its record. Assumes nothing.
 use mathlib.Core.Path.{_≡_, refl, sym, ap, _∙_}
-use mathlib.Core.Bool.{Bool, true, false, cond}
+use mathlib.Core.Bool.{Bool, true, false, cond, _&&_}
 use mathlib.Core.Logic.{⊎-elim}
 use mathlib.Core.Option.{Option, none, some}
 use mathlib.Core.List.{List, [], _∷_, map}
@@ -12,6 +12,7 @@ use lib.ListN.{List·getD-eq-default, drop, drop-of-length-le, getD, length, len
 use lib.Seq.{drop-cons, sets, sets-eq}
 use borrow.Author.Tests.{eqb-false, eqb-true, le-leb, lt-leb, ltb-false, ltb-true, ne-eqb}
 use Rattle.ground.specs.Store.{written}
+use Rattle.ground.proofs.Bools.{and-left, and-right}
 use Rattle.ground.proofs.Cases.{by-bool, not-both}
 use Rattle.ground.proofs.StoreLaws.{written-none}
 use Rattle.ump.specs.Word.{channelOf, groupOf, messageType, voice1, voice2}
@@ -41,7 +42,7 @@ use Rattle.lower.proofs.LowerLaws.{lower-few}
 use Rattle.voice.specs.declared.EffectAndReport.{EffectAndReport}
 use Rattle.voice.specs.Output.{sentWords}
 use Rattle.voice.specs.Packet.{effectAt, onwardOf, packetDownBy, packetIf, sending, sendingDown, speakDown, speakIf, spoken, voiceDown}
-use Rattle.voice.specs.Turn.{effectBy, inRoom, next, outputAfter, outputOf, reportAfter, reportOf, turned}
+use Rattle.voice.specs.Turn.{effectBy, inRoom, keptBack, next, outputAfter, outputOf, reportAfter, reportOf, turned}
 use Rattle.voice.proofs.PacketLaws.{packet-voice1}
 
 -- up to four words come back from their values
@@ -304,6 +305,29 @@ check-refused rule ok d w r out s v e n =
       refused-turn d (w ∷ []) out r (effectOf (read1 w)) (x .answer) no-packet (refused-above rule voice2 (w ∷ []) f),
       refused-output d (w ∷ []) out r (x .answer) no-packet,
     )
+
+-- one that may speak, and one that may not
+module _ (rule : Rule) (ok : Bool) (d : Done) (w : ℕ) (r : Record) (out : List ℕ) (v : messageType w ≡ voice1) where
+  abbrev Acted : Call Record
+  Acted = screened (screenBy rule voice2 (w ∷ [])) r (speakIf ok r w)
+
+  abbrev Passes : Bool
+  Passes = eqb (screenVoice1 rule w .answer) goesOn
+
+  passes-word : Passes ≡ true → Acted ≡ speakIf ok r w
+  passes-word e = passes (screenBy rule voice2 (w ∷ [])) r (speakIf ok r w) (sym (ap (λ (x : Screened). x .answer) (screen-word rule w v)) ∙ eqb-true (screenVoice1 rule w .answer) goesOn e)
+
+  pub may-speak : (Passes && ok) ≡ true → Acted ≡ spoken r w
+  may-speak e = passes-word (and-left Passes ok e) ∙ speaks-sound ok r w (and-right Passes ok e)
+
+  pub may-not-speak : (Passes && ok) ≡ false
+      → (record { after = r .memory; effect = leaves; done = keptBack d (screenVoice1 rule w) } ≡ turned d (w ∷ []) out r (effectOf (read1 w)) Acted)
+      × (out ≡ outputOf d out Acted)
+  unfolding keptBack
+  may-not-speak e =
+      by-bool Passes
+      (λ p. rw (p, passes-word p) (speaks-unsound ok d w r out (rw p at e)))
+      (λ p. rw p (check-refused rule ok d w r out (screenVoice1 rule w) v refl (eqb-false (screenVoice1 rule w .answer) goesOn p)))
 
 -- and the packet that is one
 pub voice-turn : (rule : Rule) (ok : Bool) (d : Done) (ws out : List ℕ) (r : Record) (x : EffectAndReport) (o : List ℕ) → messageType (getD ws (d .read) 0) ≡ voice1

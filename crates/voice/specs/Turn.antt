@@ -3,13 +3,15 @@ use Prim.Native.Nat.{ℕ, _+_, _-_}
 use mathlib.Core.Bool.{cond}
 use mathlib.Core.List.{List}
 use lib.ListN.{drop, length}
-use lib.Dec.{leb}
+use lib.Dec.{eqb, leb}
 use Rattle.ground.specs.Store.{written}
 use Rattle.ump.specs.Packet.{packet}
 use Rattle.stream.specs.declared.Done.{Done}
-use Rattle.stream.specs.Answers.{noRoom, sent, takenIn}
+use Rattle.stream.specs.Answers.{noRoom, notSound, sent, takenIn}
 use Rattle.stream.specs.Call.{Call, answerOf, fit, leftOf, sentOf}
-use Rattle.stream.specs.Report.{counting, further}
+use Rattle.stream.specs.Report.{counting, further, placing}
+use Rattle.screen.specs.declared.Screened.{Screened}
+use Rattle.screen.specs.Screen.{goesOn}
 use Rattle.channel.specs.declared.Record.{Record}
 use Rattle.effect.specs.Effect.{leaves}
 use Rattle.voice.specs.declared.EffectAndReport.{EffectAndReport}
@@ -41,6 +43,12 @@ turned d p out r may c =
       effect = effectBy may (inRoom d out c);
       done = reportOf d p out c;
     }
+
+-- the report of a MIDI 1.0 voice message that may not speak: its record is not sound, or the screening refuses it
+unfoldable pub keptBack : Done → Screened → Done
+keptBack d s =
+    cond (eqb (s .answer) goesOn) (counting notSound (d .read) (d .written))
+    (placing (s .answer) (s .place) (d .read + 1) (d .written))
 
 -- A row of words for an output from a place on, which holds them all or none; and what a packet of n words that sends
 -- them comes to.

@@ -18,17 +18,18 @@ use stream::report;
 use ump::MIDI1_VOICE;
 use ump::MIDI2_VOICE;
 ghost use mathlib.Core.Path.{_≡_};
-ghost use mathlib.Core.Bool.{_||_};
+ghost use mathlib.Core.Bool.{_&&_, _||_};
 ghost use mathlib.Core.List.{[], _∷_};
 ghost use Prim.Native.Nat.{_+_, _<_, _^_};
+ghost use lib.Dec.{eqb};
 ghost use Rattle.ump.specs.Word.{messageType, voice1, voice2};
-ghost use Rattle.screen.specs.Screen.{screenBy, screened};
+ghost use Rattle.screen.specs.Screen.{goesOn, screenBy, screenVoice1, screened};
 ghost use Rattle.channel.specs.Record.{sound};
 ghost use Rattle.message.specs.Message.{read1};
 ghost use Rattle.effect.specs.Effect.{leaves};
 ghost use Rattle.lift.specs.Lift.{effectOf};
 ghost use Rattle.voice.specs.Packet.{effectAt, packetIf, speakIf, spoken};
-ghost use Rattle.voice.specs.Turn.{next, outputOf, turned};
+ghost use Rattle.voice.specs.Turn.{keptBack, next, outputOf, turned};
 
 // The record stays.
 fn stays(record: Record, done: Done) -> EffectAndReport
@@ -84,18 +85,40 @@ fn is_found_sound(known: bool, record: Record) -> bool
     if known { true } else { record.is_sound() }
 }
 
-// A checked message with its record, which has to be sound.
-fn speak_up(past: Done, record: Record, known: bool, w: u32, out: &mut [u32]) -> EffectAndReport
-    requires { ⌜ past .read + 1 < 2 ^ 64 ⌝ }
-    ensures turn { λ r. ⌜ r ≡ turned past (w ∷ []) (now (out .entry)) «record» (effectOf (read1 w))
-        (speakIf (known || sound «record») «record» w) ⌝ }
-    ensures output { λ _. ⌜ now (out .exit)
-        ≡ outputOf past (now (out .entry)) (speakIf (known || sound «record») «record» w) ⌝ }
+// Whether a message passes the screening, and its record is sound.
+fn may_speak_by(record: Record, known: bool, w: u32, rule: Rule) -> bool
+    ensures { λ r. ⌜ r ≡ (eqb (screenVoice1 rule w .answer) goesOn && (known || sound «record»)) ⌝ }
 {
-    if is_found_sound(known, record) {
-        speak(past, record, w, out)
+    let screened = screen::screen_voice1(rule, w);
+    if screened.answer == GOES_ON {
+        is_found_sound(known, record)
     } else {
-        stays(record, report(NOT_SOUND, past.read, past.written))
+        false
+    }
+}
+
+// The same. Where the record is known and no rule asks anything, as in most runs, one test leaves only the
+// word to be asked.
+fn may_speak(record: Record, known: bool, w: u32, rule: Rule) -> bool
+    ensures { λ r. ⌜ r ≡ (eqb (screenVoice1 rule w .answer) goesOn && (known || sound «record»)) ⌝ }
+{
+    if known & !screen::is_ruled(rule) {
+        screen::voice1_goes_on(w)
+    } else {
+        may_speak_by(record, known, w, rule)
+    }
+}
+
+// The report of a message that may not speak: what the screening found, or that its record is not sound.
+fn kept_back(past: Done, w: u32, rule: Rule) -> Done
+    requires { ⌜ past .read + 1 < 2 ^ 64 ⌝ }
+    ensures { λ r. ⌜ r ≡ keptBack past (screenVoice1 rule w) ⌝ }
+{
+    let screened = screen::screen_voice1(rule, w);
+    if screened.answer == GOES_ON {
+        report(NOT_SOUND, past.read, past.written)
+    } else {
+        refuse(past, screened, 1)
     }
 }
 
@@ -114,11 +137,10 @@ fn voice_up(
     ensures output { λ _. ⌜ now (out .exit) ≡ outputOf past (now (out .entry))
         (screened (screenBy rule voice2 (w ∷ [])) «record» (speakIf (known || sound «record») «record» w)) ⌝ }
 {
-    let screened = screen::screen_voice1(rule, w);
-    if screened.answer == GOES_ON {
-        speak_up(past, record, known, w, out)
+    if may_speak(record, known, w, rule) {
+        speak(past, record, w, out)
     } else {
-        stays(record, refuse(past, screened, 1))
+        stays(record, kept_back(past, w, rule))
     }
 }
 
