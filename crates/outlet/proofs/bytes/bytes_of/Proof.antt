@@ -1,0 +1,28 @@
+-- `outlet::bytes::bytes_of`: heading, payload, ending.
+use mathlib.Core.Path.{_∙_}
+use native.Mathlib.Omega.{arith}
+use Rattle.outlet.specs.Outlet.{six}
+use Rattle.outlet.specs.Outlet.{bytesOf, ending, heading}
+use Rattle.outlet.proofs.ByteLaws.{laid, shut}
+use borrow.Author.Needs.{needs}
+use Rattle.outlet.proofs.bytes.bytes_of.Statement.{statement}
+use Rattle.outlet.proofs.bytes.bytes_of.Tie as tie
+
+returns : tie.Need-returns
+unfolding bytesOf heading ending
+returns c =
+    let a = c .before .before .before .before .before .args in
+    let n = c .before .before .before .before .some-of .ensures in
+    let f = rw (c .before .after-head .ensures .0, c .before .before .eight .ensures, shut) at (c .ended .ensures .0) in
+    (simp (← n .0, ← c .before .before .before .head-of .ensures) (f ∙ laid _ _ _ (six (a .w) (a .v)) _ (omega (arith, n .1))), c .ended .ensures .1, c .ended .ensures .2)
+
+pub bytes-of-spec : {M : Type 1} → statement M
+bytes-of-spec =
+    tie.close
+    (tie.spec
+    (λ c κs. search needs)
+    (λ c κs. search needs)
+    (λ c κs. search needs)
+    (λ c κs. search needs)
+    (λ c κs. search needs)
+    returns)
