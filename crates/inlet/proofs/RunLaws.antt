@@ -77,6 +77,32 @@ opened-most s = go (eqb (s .status) 0)
     go true = omega arith
     go false = omega arith
 
+-- One more call of a loop over the bytes a, at the place i: which calls come after it, and that less is left to do.
+module _ (g : ℕ) (a : List ℕ) (s : Cable) (i : ℕ) (h : i < length a) where
+  abbrev heard : Call
+  heard = byteIn s g (getD a i 0)
+
+  pub at-byte : callsIn g s (drop i a) ≡ made g s (getD a i 0) ∷ callsIn g (heard .after) (drop (i + heard .read) a)
+  at-byte =
+      rw (
+        drop-cons a i 0 h,
+        calls-cons g s (getD a i 0) (drop (suc i) a),
+        ← drop-cons a i 0 h,
+        drop-drop (heard .read) i a,
+      )
+
+  pub less : (2 * (length a - (i + heard .read)) + opened (heard .after) < 2 * (length a - i) + opened s)
+      × (i + heard .read ≤ length a)
+  less = go (heard .read) refl (next-in s g (getD a i 0)) (opened-most (heard .after))
+    where
+      go : (k : ℕ) → heard .read ≡ k → Next s g (getD a i 0) heard → opened (heard .after) ≤ 1
+          → (2 * (length a - (i + k)) + opened (heard .after) < 2 * (length a - i) + opened s) × (i + k ≤ length a)
+      go zero e x o =
+          rw (eq-eqb (heard .after .status) 0 (x .shut-after e), ne-eqb (s .status) 0 (x .open-before e))
+          (omega arith, omega arith)
+      go (suc zero) e x o = (omega arith, omega arith)
+      go (suc (suc k)) e x o = absurd (omega (arith, x .most))
+
 -- a run after i bytes were read and ws were sent
 abbrev onTop : ℕ → List ℕ → Ran Cable → Ran Cable
 onTop i ws r = record { answer = r .answer; read = i + r .read; sends = ws ++ r .sends; left = r .left }
@@ -120,18 +146,6 @@ module _ (g : ℕ) (s₀ : Cable) (a out₀ : List ℕ) where
   finish s out i n r h =
       over s out i n sent (r .runs ∙ rw (drop-of-length-le a h, add-zero i, append-nil (take n out))) r
 
-  at-byte : (s : Cable) (i : ℕ) → i < length a
-      → callsIn g s (drop i a)
-      ≡ made g s (getD a i 0)
-      ∷ callsIn g (byteIn s g (getD a i 0) .after) (drop (i + byteIn s g (getD a i 0) .read) a)
-  at-byte s i h =
-      rw (
-        drop-cons a i 0 h,
-        calls-cons g s (getD a i 0) (drop (suc i) a),
-        ← drop-cons a i 0 h,
-        drop-drop (byteIn s g (getD a i 0) .read) i a,
-      )
-
   module _ (s : Cable) (out : List ℕ) (i n : ℕ) (inv : Runs s out i n) (h : i < length a) where
     abbrev c : Call
     c = byteIn s g (getD a i 0)
@@ -139,22 +153,10 @@ module _ (g : ℕ) (s₀ : Cable) (a out₀ : List ℕ) where
     abbrev free : ℕ
     free = length out - n
 
-    -- what is left to do is less
-    less : (2 * (length a - (i + c .read)) + opened (c .after) < 2 * (length a - i) + opened s) × (i + c .read ≤ length a)
-    less = go (c .read) refl (next-in s g (getD a i 0)) (opened-most (c .after))
-      where
-        go : (k : ℕ) → c .read ≡ k → Next s g (getD a i 0) c → opened (c .after) ≤ 1
-            → (2 * (length a - (i + k)) + opened (c .after) < 2 * (length a - i) + opened s) × (i + k ≤ length a)
-        go zero e x o =
-            rw (eq-eqb (c .after .status) 0 (x .shut-after e), ne-eqb (s .status) 0 (x .open-before e))
-            (omega arith, omega arith)
-        go (suc zero) e x o = (omega arith, omega arith)
-        go (suc (suc k)) e x o = absurd (omega (arith, x .most))
-
     stop : leb (length (c .sends)) free ≡ false
         → Told (record { answer = noRoom; read = i; written = n; after = s }) out
     unfolding ranIn pick
-    stop t = over s out i n noRoom (inv .runs ∙ rw (at-byte s i h, t, add-zero i, append-nil (take n out))) inv
+    stop t = over s out i n noRoom (inv .runs ∙ rw (at-byte g a s i h, t, add-zero i, append-nil (take n out))) inv
 
     goes : leb (length (c .sends)) free ≡ true → (after : List ℕ) → after ≡ written n (c .sends) out
         → Runs (c .after) after (i + c .read) (n + length (c .sends))
@@ -179,13 +181,13 @@ module _ (g : ℕ) (s₀ : Cable) (a out₀ : List ℕ) where
         let spare : length after - (n + m) ≡ free - m = omega arith in
         let q = ranIn (free - m) (c .after) (callsIn g (c .after) (drop (i + c .read) a)) in
         record {
-          read = less .1;
+          read = less g a s i h .1;
           wrote = omega arith;
           long = long ∙ inv .long;
           rest = left ∙ sym (drop-drop m n out) ∙ ap (drop m) (inv .rest) ∙ drop-drop m n out₀;
           runs = inv .runs
               ∙ rw (
-                at-byte s i h,
+                at-byte g a s i h,
                 t,
                 took,
                 spare,
@@ -211,7 +213,7 @@ module _ (g : ℕ) (s₀ : Cable) (a out₀ : List ℕ) where
             × (2 * (length a - (i + r .read)) + opened (r .after) < 2 * (length a - i) + opened s))
         go true t e f = (
           λ z. absurd (eqb-false (c .answer) noRoom (few s g (getD a i 0) .fits) (ap (λ (x : Imported). x .answer) (sym e) ∙ z)),
-          λ _. rw e (goes t after f, less .0),
+          λ _. rw e (goes t after f, less g a s i h .0),
         )
         go false t e f =
             (λ _. rw (f ∙ written-none n out) (stop t), λ z. absurd (z (ap (λ (x : Imported). x .answer) e)))
