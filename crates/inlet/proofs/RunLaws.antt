@@ -70,7 +70,7 @@ calls-cons g s b bs = go (byteIn s g b .read) refl (next-in s g b)
 abbrev pub opened : Cable → ℕ
 opened s = cond (eqb (s .status) 0) 0 1
 
-opened-most : (s : Cable) → opened s ≤ 1
+pub opened-most : (s : Cable) → opened s ≤ 1
 opened-most s = go (eqb (s .status) 0)
   where
     go : (t : Bool) → cond t 0 1 ≤ 1
