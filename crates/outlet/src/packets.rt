@@ -98,7 +98,12 @@ fn export_packet(group: u8, packet: &[u32], past: Done, out: &mut [u8]) -> Done
         let all = bytes_of(word_at(packet, 0), word_at(packet, 1));
         give(past, packet.len(), all, out)
     } else {
-        report_place(found.answer, found.place, past.read + packet.len(), past.written)
+        report_place(
+            found.answer,
+            found.place,
+            past.read + packet.len(),
+            past.written,
+        )
     }
 }
 
