@@ -65,21 +65,21 @@ fn answer_for(count: usize) -> u32
     if count == 0 { TAKEN_IN } else { SENT }
 }
 
-// A packet of n words gives its bytes, if there is room for them.
-fn give(past: Done, n: usize, all: Eight, out: &mut [u8]) -> Done
+// A packet gives its bytes, if there is room for them.
+fn give(past: Done, packet: &[u32], all: Eight, out: &mut [u8]) -> Done
     requires { ⌜ (all .count ≤ 8) × (length (take (all .count) (all .bytes)) ≡ all .count)
-        × (past .read + n < 2 ^ 64) ⌝ }
-    ensures report { λ r. ⌜ r
-        ≡ givenAt past n (take (all .count) (all .bytes)) (length (now (out .entry))) .0 ⌝ }
+        × (past .read + length (now packet) < 2 ^ 64) ⌝ }
+    ensures report { λ r. ⌜ r ≡ further past (now (packet .entry))
+        (givenAt (take (all .count) (all .bytes)) past (now (out .entry))) ⌝ }
     ensures output { λ _. ⌜ now (out .exit) ≡ written (past .written)
-        (givenAt past n (take (all .count) (all .bytes)) (length (now (out .entry))) .1) (now (out .entry)) ⌝ }
+        (sentOf (givenAt (take (all .count) (all .bytes)) past (now (out .entry)))) (now (out .entry)) ⌝ }
 {
     let read = past.read;
     let to = past.written;
     let count = all.count;
     let bytes = all.bytes;
     if put(out, to, bytes, count) {
-        report(answer_for(count), read + n, to + count)
+        report(answer_for(count), read + packet.len(), to + count)
     } else {
         report(NO_ROOM, read, to)
     }
@@ -96,7 +96,7 @@ fn export_packet(group: u8, packet: &[u32], past: Done, out: &mut [u8]) -> Done
     let found = screen_out(group, packet);
     if found.answer == GOES_ON {
         let all = bytes_of(word_at(packet, 0), word_at(packet, 1));
-        give(past, packet.len(), all, out)
+        give(past, packet, all, out)
     } else {
         report_place(
             found.answer,

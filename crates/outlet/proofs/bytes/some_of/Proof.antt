@@ -12,6 +12,6 @@ some-of-spec =
     tie.close
     (tie.spec
     (λ c κs. search needs)
-    (λ c κs. search needs)
-    (λ c. (rw (c .size-u8 .ensures, c .before .before .amount-of .ensures), omega (arith, c .size-u8 .ensures)))
+    (λ c. search needs)
+    (λ c. (rw (c .before .amount-of .ensures), omega arith))
     (λ c. (rw (← c .before .amount-of .ensures) (all-six _ _ _ _ _ _ _ (c .if1 .left)), omega arith)))
