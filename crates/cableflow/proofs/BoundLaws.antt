@@ -8,15 +8,20 @@ use lib.Dec.{eqb, leb, ltb}
 use lib.ListN.{length}
 use borrow.Author.Tests.{eqb-false, eqb-true}
 use Rattle.ground.specs.Store.{atStart}
+use Rattle.ground.proofs.Cases.{choose}
+use Rattle.stream.specs.declared.Done.{Done}
 use Rattle.stream.specs.Answers.{noRoom, notSound, outOfRange}
+use Rattle.stream.specs.Report as Report
 use Rattle.stream.specs.Run.{Ran}
+use Rattle.stream.proofs.RunLaws.{words-read}
 use Rattle.cable.specs.declared.Cable.{Cable}
 use Rattle.cable.specs.State.{pick, sound}
 use Rattle.cable.specs.Hearing.{Call, byteIn}
 use Rattle.cable.proofs.Ways.{either, next-in, told}
 use Rattle.inlet.specs.declared.Imported.{Imported}
 use Rattle.inlet.specs.Inlet.{Made, beforeRest, callsIn, made, nothingDone, ranIn, reported, runIn}
-use Rattle.flow.proofs.BoundLaws.{stored-most}
+use Rattle.outlet.specs.Outlet.{runOut}
+use Rattle.flow.proofs.BoundLaws.{reads-most, stored-most, writes-most}
 
 record Most (n : ℕ) (r : Ran Cable) : Type 0 where
   pub most : r .read ≤ n
@@ -74,3 +79,15 @@ import-bounds g room s bs out out′ r l e f =
       omega (arith, ap (λ (x : Imported). x .read) e, q .most),
       omega (arith, ap (λ (x : Imported). x .written) e, stored-most (runIn g room s bs .sends) out out′ f l),
     )
+
+-- and of an export
+pub export-reads : (g room : ℕ) (ws : List ℕ) (d : Done) → d ≡ Report.reported (runOut g room ws) → d .read ≤ length ws
+unfolding runOut
+export-reads g room ws d =
+    reads-most (runOut g room ws) (length ws) d
+    (choose (λ (r : Ran (ℕ × Unit {0})). r .read ≤ length ws) (ltb 15 g) (λ _. omega arith) (λ _. words-read _ _ ws))
+
+pub export-bounds : (g room : ℕ) (ws out out′ : List ℕ) (d : Done) → length out′ ≡ length out
+    → d ≡ Report.reported (runOut g room ws) → out′ ≡ atStart (runOut g room ws .sends) out
+    → (d .read ≤ length ws) × (d .written ≤ length out′)
+export-bounds g room ws out out′ d l e f = (export-reads g room ws d e, writes-most (runOut g room ws) out out′ d e f l)

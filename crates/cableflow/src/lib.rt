@@ -9,18 +9,30 @@ use cable::hear;
 use cable::is_sound;
 use inlet::Imported;
 use inlet::run_import;
+use outlet::run_export;
+use stream::Done;
 use tally::SORTS;
+use tally::Way;
 use tally::one_more;
+use tally::tally_of;
 ghost use mathlib.Core.Path.{_≡_};
-ghost use lib.ListN.{length};
+ghost use lib.ListN.{length, take};
 ghost use Rattle.ground.specs.Store.{atStart};
-ghost use Rattle.tally.specs.Tally.{tally};
+ghost use Rattle.stream.specs.Report;
+ghost use Rattle.tally.specs.Tally.{tally, tallyOut};
 ghost use Rattle.inlet.specs.Inlet.{callsIn, reported, runIn};
+ghost use Rattle.outlet.specs.Outlet.{runOut};
 ghost use Rattle.cableflow.specs.Answers.{answersIn, answersOf};
 
 // An import: its report, with the cable after it, and how often each answer came.
 pub struct ImportedAndCounts {
     pub imported: Imported,
+    pub counts: [u64; SORTS],
+}
+
+// An export: its report, and how often each sort of answer came.
+pub struct ExportedAndCounts {
+    pub done: Done,
     pub counts: [u64; SORTS],
 }
 
@@ -75,4 +87,18 @@ pub fn import_some(cable: Cable, group: u8, bytes: &[u8], out: &mut [u32]) -> Im
     let imported = run_import(cable, group, bytes, out);
     let counts = counts_of(cable, group, bytes, room);
     ImportedAndCounts { imported, counts }
+}
+
+// The packets of a group into bytes for its cable, until one stops the run.
+pub fn export_some(group: u8, words: &[u32], out: &mut [u8]) -> ExportedAndCounts
+    ensures report { λ r. ⌜ r .done
+        ≡ Report.reported (runOut group (length (now (out .entry))) (now (words .entry))) ⌝ }
+    ensures counts { λ r. ⌜ r .counts ≡ tallyOut group (take (r .done .read) (now (words .entry))) ⌝ }
+    ensures output { λ _. ⌜ now (out .exit) ≡ atStart
+        (runOut group (length (now (out .entry))) (now (words .entry)) .sends) (now (out .entry)) ⌝ }
+{
+    let done = run_export(group, words, out);
+    let read = done.read;
+    let counts = tally_of(Way::Out(group), &words[..read]);
+    ExportedAndCounts { done, counts }
 }

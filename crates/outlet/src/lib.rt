@@ -8,6 +8,7 @@ mod packets;
 
 pub use packets::export;
 pub use packets::run_export;
+pub use packets::screen_out;
 
 // A packet's bytes, the first `count` of eight.
 struct Eight {

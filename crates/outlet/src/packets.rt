@@ -41,7 +41,7 @@ fn is_ours(group: u8, w: u32) -> bool
 }
 
 // The screening of a packet, or of the empty part where none is whole.
-fn screen_out(group: u8, packet: &[u32]) -> Screened
+pub fn screen_out(group: u8, packet: &[u32]) -> Screened
     ensures { λ r. ⌜ r ≡ screenOut group (now (packet .entry)) ⌝ }
 {
     let found = screen::screen(NEITHER_TYPE, packet);

@@ -22,8 +22,9 @@ use Rattle.screen.specs.Screen.{openRule, screen}
 use Rattle.voice.specs.Packet.{callDownBy, packetDown}
 use Rattle.voice.specs.Turn.{reportOf}
 use Rattle.voice.proofs.PacketLaws.{few-down}
+use Rattle.outlet.specs.Outlet.{screenOut}
 use Rattle.tally.specs.declared.Way.{Way}
-use Rattle.tally.specs.declared.Way.the-variants.{Up, Down}
+use Rattle.tally.specs.declared.Way.the-variants.{Up, Down, Out}
 use Rattle.tally.specs.Tally.{allSorts, counted, from, sortBy, sortDown, sortOf, tally, tallyBy, times}
 
 times-after : (n : ℕ) (xs : List ℕ) (a : ℕ) → times n (xs ++ (a ∷ [])) ≡ times n xs + cond (eqb a n) 1 0
@@ -89,6 +90,7 @@ sort-near : (way : Way) (w : ℕ) (s : List ℕ) → sortBy way (take (size w) (
 unfolding sortBy callDownBy
 sort-near Down w s =
     ap (λ (p : List ℕ). sortOf (answerOf (packetDown p)) (placeTold (answerOf (packetDown p)) p)) (packet-near w s)
+sort-near (Out g) w s = ap (λ (p : List ℕ). sortOf (screenOut g p .answer) (screenOut g p .place)) (packet-near w s)
 sort-near Up w s = ap (λ (p : List ℕ). sortOf (screen voice2 p .answer) (screen voice2 p .place)) (packet-near w s)
 
 -- four words are room for whatever a packet becomes

@@ -11,23 +11,29 @@ use Rattle.stream.specs.Call.{answerOf}
 use Rattle.stream.specs.Report.{placeTold}
 use Rattle.screen.specs.Screen.{screen}
 use Rattle.voice.specs.Packet.{callDown}
+use Rattle.outlet.specs.Outlet.{screenOut}
 use Rattle.tally.specs.declared.Way.{Way}
-use Rattle.tally.specs.declared.Way.the-variants.{Up, Down}
+use Rattle.tally.specs.declared.Way.the-variants.{Up, Down, Out}
 
 -- The sort of a call: its answer, 0 to 25; and 26 to 32 are bad data at the places 1 to 7.
 abbrev pub sortOf : ℕ → ℕ → ℕ
 sortOf answer place = cond (eqb place 0) answer (notForCable + place)
 
--- The sort of the packet that stands first in some words. Going up only the screening refuses, and 0 stands for all else.
+-- The sort of the packet that stands first in some words. Going up and out to a cable only the screening refuses, and 0
+-- stands for all else.
 abbrev pub sortUp : List ℕ → ℕ
 sortUp s = sortOf (screen voice2 (packet s) .answer) (screen voice2 (packet s) .place)
 
 abbrev pub sortDown : List ℕ → ℕ
 sortDown s = sortOf (answerOf (callDown tt s)) (placeTold (answerOf (callDown tt s)) (packet s))
 
+abbrev pub sortOut : ℕ → List ℕ → ℕ
+sortOut g s = sortOf (screenOut g (packet s) .answer) (screenOut g (packet s) .place)
+
 unfoldable pub sortBy : Way → List ℕ → ℕ
 sortBy Up s = sortUp s
 sortBy Down s = sortDown s
+sortBy (Out g) s = sortOut g s
 
 -- how many times a number occurs
 unfoldable pub times : ℕ → List ℕ → ℕ
@@ -59,3 +65,6 @@ tallyUp ws = tallyBy Up ws
 
 abbrev pub tallyDown : List ℕ → List ℕ
 tallyDown ws = tallyBy Down ws
+
+abbrev pub tallyOut : ℕ → List ℕ → List ℕ
+tallyOut g ws = tallyBy (Out g) ws

@@ -10,7 +10,7 @@ use stream::report;
 use ump::MIDI2_VOICE;
 ghost use mathlib.Core.Path.{_≡_};
 ghost use lib.ListN.{drop};
-ghost use Rattle.tally.specs.Tally.{counted, sortBy, sortDown, sortOf, sortUp, tallyBy};
+ghost use Rattle.tally.specs.Tally.{counted, sortBy, sortDown, sortOf, sortOut, sortUp, tallyBy};
 
 // The highest of all answers, behind which bad data stand by their places.
 pub const LAST_ANSWER: u32 = NOT_FOR_CABLE;
@@ -19,10 +19,11 @@ pub const LAST_ANSWER: u32 = NOT_FOR_CABLE;
 // behind all answers, up to the seventh.
 pub const SORTS: usize = 33;
 
-// Which call is made at each packet.
+// Which call is made at each packet: up, down, or out to the cable of a group.
 pub enum Way {
     Up,
     Down,
+    Out(u8),
 }
 
 fn sort_of(answer: u32, place: u32) -> u64
@@ -65,6 +66,14 @@ fn sort_up(words: &[u32], at: usize) -> u64
     sort_of(screened.answer, screened.place)
 }
 
+// The sort of a packet for the cable of a group, where the screening alone refuses as well.
+fn sort_out(group: u8, words: &[u32], at: usize) -> u64
+    ensures { λ r. ⌜ r ≡ sortOut group (drop at (now (words .entry))) ⌝ }
+{
+    let screened = outlet::screen_out(group, ump::packet_at(words, at));
+    sort_of(screened.answer, screened.place)
+}
+
 // The sort of the packet at a place.
 fn sort_at(way: Way, words: &[u32], at: usize) -> u64
     ensures { λ r. ⌜ r ≡ sortBy way (drop at (now (words .entry))) ⌝ }
@@ -72,6 +81,7 @@ fn sort_at(way: Way, words: &[u32], at: usize) -> u64
     match way {
         Way::Up => sort_up(words, at),
         Way::Down => sort_down(words, at),
+        Way::Out(group) => sort_out(group, words, at),
     }
 }
 

@@ -9,5 +9,7 @@ unfolding sortBy
 sort-at-spec =
     tie.close
     (tie.spec (λ c. search needs) (λ c κs. search needs) (λ c. search needs) (λ c κs. search needs)
+    (λ c. search needs) (λ c κs. search needs)
     (λ c. rw (c .before .enum-told .given .1) (c .sort-up .ensures))
-    (λ c. rw (c .before .enum-told2 .given .1) (c .sort-down .ensures)))
+    (λ c. rw (c .before .enum-told2 .given .1) (c .sort-down .ensures))
+    (λ c. rw (c .before .before .way .given .1) (c .sort-out .ensures)))
