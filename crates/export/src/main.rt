@@ -1,3 +1,3 @@
 fn main() {
-    sockets::export();
+    cablefilter::export();
 }

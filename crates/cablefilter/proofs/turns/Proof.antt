@@ -1,11 +1,11 @@
--- `sockets::turns` is safe and ends. The loop's invariant: each buffer keeps its length. The measure is the turns left.
+-- `cablefilter::turns` is safe and ends. The loop's invariant: each buffer keeps its length. The measure is the turns left.
 -- Assumes nothing.
 use Prim.Native.Nat.{_^_}
 use mathlib.Core.Path.{_≡_, _∙_}
 use borrow.Author.Needs.{needs}
 use lib.ListN.{length}
-use Rattle.sockets.proofs.turns.Statement.{statement}
-use Rattle.sockets.proofs.turns.Tie as tie
+use Rattle.cablefilter.proofs.turns.Statement.{statement}
+use Rattle.cablefilter.proofs.turns.Tie as tie
 
 abbrev Inv-loop : tie.InvT-loop
 Inv-loop side chosen bytes₀ words₀ text₀ s₀ more₀ bytes words text s more =

@@ -1,10 +1,10 @@
--- `sockets::turn` is safe: what goes through the socket are the bytes that were read, and each buffer keeps its length.
+-- `cablefilter::turn` is safe: what goes through the socket are the bytes that were read, and each buffer keeps its length.
 -- Assumes nothing.
 use mathlib.Core.Path.{sym, _∙_}
 use borrow.Author.Needs.{needs}
 use lib.Seq.{length-take-le}
-use Rattle.sockets.proofs.turn.Statement.{statement}
-use Rattle.sockets.proofs.turn.Tie as tie
+use Rattle.cablefilter.proofs.turn.Statement.{statement}
+use Rattle.cablefilter.proofs.turn.Tie as tie
 
 abbrev reading : tie.After-pass-through-arg → tie.After-read-more
 reading c = c .before .before .before .before .before
