@@ -1,0 +1,9 @@
+pub mod InRuns
+pub mod OutRuns
+pub mod Messages
+pub mod VoiceLaws
+pub mod ExclusiveLaws
+pub mod RealTimeLaws
+pub mod SoundLaws
+pub mod RoomLaws
+pub mod EveryByteLaws
