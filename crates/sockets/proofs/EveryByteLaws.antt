@@ -32,12 +32,8 @@ single g few (b ∷ bs) s ok =
     let e = byte-sound s g b ok in
     let x = single g few bs u e in
     let y = single g few bs v (byte-sound u g b e) in
-    record {
-      all = (
-        called s g b few ok,
-        either (Single g) (eqb (byteIn s g b .read) 1) x (record { all = (called u g b few e, y .all) }) .all,
-      );
-    }
+    let z : Single g (made g u b ∷ callsIn g v bs) = record { all = (called u g b few e, y .all) } in
+    record { all = (called s g b few ok, either (Single g) (eqb (byteIn s g b .read) 1) x z .all) }
 
 next : (g : ℕ) (s : Cable) (b : ℕ) → g ≤ 15 → sound s ≡ true → callIn s g (b ∷ []) .read ≡ 0
     → callIn (callIn s g (b ∷ []) .after) g (b ∷ []) .read ≡ 1

@@ -84,7 +84,7 @@ record Light (s : Cable) (c : Call) : Type 0 where
 ok : {s : Cable} {c : Call} → length (c .sends) + weight (c .after) ≤ 2 * c .read + weight s → Light s c
 ok h = record { most = h }
 
-weight-most : (t : Bool) → cond t 2 0 ≤ 2
+pub weight-most : (t : Bool) → cond t 2 0 ≤ 2
 weight-most true = omega arith
 weight-most false = omega arith
 

@@ -7,3 +7,6 @@ pub mod RealTimeLaws
 pub mod SoundLaws
 pub mod RoomLaws
 pub mod EveryByteLaws
+pub mod FullLaws
+pub mod RunningLaws
+pub mod RefusalLaws

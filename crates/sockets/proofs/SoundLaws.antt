@@ -1,5 +1,5 @@
 -- Every call leaves a sound cable sound: way by way. Assumes nothing.
-use Prim.Native.Nat.{ℕ, zero, suc, _+_, _≤_, _<_}
+use Prim.Native.Nat.{ℕ, zero, suc, _+_, _-_, _≤_, _<_}
 use mathlib.Core.Path.{_≡_, refl, sym, _∙_}
 use mathlib.Core.Bool.{Bool, true, false, cond, _&&_, _||_}
 use mathlib.Core.Logic.{_⊎_, inl, inr, ⊎-elim}
@@ -12,13 +12,14 @@ use borrow.Author.Tests.{eq-eqb, eqb-false, eqb-true, le-leb, le-ltb, leb-false,
 use borrow.Author.Tests.{ne-eqb}
 use Rattle.ground.proofs.Bools.{and-left, and-right}
 use Rattle.ground.proofs.Cases.{by-bool}
+use Rattle.stream.specs.Run.{Ran}
 use Rattle.cable.specs.declared.Cable.{Cable}
 use Rattle.cable.specs.State.{exclusive, heldAt, holding, idle, need, pick, pushed, slot, slotAt, sound, soundHeld, soundOpen}
 use Rattle.cable.specs.State.{soundRunning, voiceByte}
 use Rattle.cable.specs.Hearing.{Call, byteIn, dataIn, endIn, exclusiveIn, firstIn, messageIn, realTimeIn, runsOn, serving}
 use Rattle.cable.specs.Hearing.{statusIn}
 use Rattle.cable.proofs.Ways.{either, told}
-use Rattle.inlet.specs.Inlet.{Made, callIn, callsIn, fitIn, nextIn, oneIn, ranIn, runIn}
+use Rattle.inlet.specs.Inlet.{Made, callIn, callsIn, fitIn, made, nextIn, oneIn, ranIn, runIn}
 use Rattle.sockets.specs.StaysSound.{StaysSound}
 
 or-ways : (a b : Bool) → (a || b) ≡ true → (a ≡ true) ⊎ (b ≡ true)
@@ -29,6 +30,7 @@ or-ways false b h = inr h
 record Waits (s : Cable) : Type 0 where
   pub low : 0x80 ≤ s .status
   pub high : s .status < 0xF4
+  pub few : s .count < need (s .status)
   pub serves : (eqb (s .running) 0 || eqb (s .running) (s .status)) ≡ true
 
 record Excludes (s : Cable) : Type 0 where
@@ -52,31 +54,46 @@ module _ (s : Cable) (ok : sound s ≡ true) where
   -- nothing, an exclusive, or a message
   opens : (s .status ≡ 0) ⊎ (Excludes s ⊎ Waits s)
   opens =
-      ⊎-elim (λ h. inl (eqb-true (s .status) 0 (and-left _ _ h)))
+      let held = eqb (s .count) 0 && eqb (s .begun) 0 in
+      let begins = leb (s .begun) 1 && leb (s .begun) (s .count) in
+      let six = leb (s .count) 6 && begins in
+      let known = leb 0x80 (s .status) && ltb (s .status) 0xF4 in
+      let serves = eqb (s .running) 0 || eqb (s .running) (s .status) in
+      let unbegun = eqb (s .begun) 0 && serves in
+      let waits = ltb (s .count) (need (s .status)) && unbegun in
+      let first = eqb (s .status) 0 && held in
+      let other = eqb (s .status) 0xF0 && (eqb (s .running) 0 && six) in
+      ⊎-elim (λ h. inl (eqb-true (s .status) 0 (and-left (eqb (s .status) 0) held h)))
       (λ h. inr (⊎-elim
       (λ k.
-      let a = and-right _ _ k in
-      let b = and-right _ _ (and-right _ _ a) in
+      let a = and-right (eqb (s .status) 0xF0) (eqb (s .running) 0 && six) k in
+      let b = and-right (leb (s .count) 6) begins (and-right (eqb (s .running) 0) six a) in
       inl (record {
-        status = eqb-true (s .status) 0xF0 (and-left _ _ k);
-        running = eqb-true (s .running) 0 (and-left _ _ a);
-        begun = leb-true (s .begun) 1 (and-left _ _ b);
-        some = leb-true (s .begun) (s .count) (and-right _ _ b);
+        status = eqb-true (s .status) 0xF0 (and-left (eqb (s .status) 0xF0) (eqb (s .running) 0 && six) k);
+        running = eqb-true (s .running) 0 (and-left (eqb (s .running) 0) six a);
+        begun = leb-true (s .begun) 1 (and-left (leb (s .begun) 1) (leb (s .begun) (s .count)) b);
+        some = leb-true (s .begun) (s .count) (and-right (leb (s .begun) 1) (leb (s .begun) (s .count)) b);
       }))
       (λ k.
-      let a = and-left _ _ k in
+      let a = and-left known waits k in
+      let b = and-right known waits k in
       inr (record {
-        low = leb-true 0x80 (s .status) (and-left _ _ a);
-        high = ltb-true (s .status) 0xF4 (and-right _ _ a);
-        serves = and-right _ _ (and-right _ _ (and-right _ _ k));
+        low = leb-true 0x80 (s .status) (and-left (leb 0x80 (s .status)) (ltb (s .status) 0xF4) a);
+        high = ltb-true (s .status) 0xF4 (and-right (leb 0x80 (s .status)) (ltb (s .status) 0xF4) a);
+        few = ltb-true (s .count) (need (s .status)) (and-left (ltb (s .count) (need (s .status))) unbegun b);
+        serves = and-right (eqb (s .begun) 0) serves (and-right (ltb (s .count) (need (s .status))) unbegun b);
       }))
-      (or-ways _ _ h)))
-      (or-ways _ _ (and-left (soundOpen s) (soundHeld s) open-held))
+      (or-ways other (known && waits) h)))
+      (or-ways first (other || (known && waits)) (and-left (soundOpen s) (soundHeld s) open-held))
 
 -- a sound state, of what is built
 sound-idle : (r : ℕ) → (eqb r 0 || voiceByte r) ≡ true → sound (idle r) ≡ true
 unfolding sound
 sound-idle r h = rw h
+
+sound-exclusive : sound (exclusive 0 []) ≡ true
+unfolding sound
+sound-exclusive = refl
 
 sound-runs : (st : ℕ) → 0x80 ≤ st → sound (idle (runsOn st)) ≡ true
 sound-runs st lo =
@@ -99,6 +116,16 @@ sound-one r st b h k lo hi n l =
     excluded : st ≡ 0xF0 → need st ≡ 2 → ⊥
     excluded e m = omega (arith, rw e at m)
 
+past : (b k : ℕ) → k ≤ b → (b ≡ k → ⊥) → suc k ≤ b
+past b k h n = omega (arith, n)
+
+no-less : (a b : ℕ) → a ≤ b → b < a → ⊥
+no-less a b h k = omega arith
+
+none-of-four : (b : ℕ) → 0xF0 ≤ b → b < 0xF4 → (b ≡ 0xF0 → ⊥) → (b ≡ 0xF1 → ⊥) → (b ≡ 0xF2 → ⊥) → (b ≡ 0xF3 → ⊥) → ⊥
+none-of-four b lo hi n o p q =
+    no-less 0xF4 b (past b 0xF3 (past b 0xF2 (past b 0xF1 (past b 0xF0 lo n) o) p) q) hi
+
 -- every status byte below F4 but F0 has data bytes
 need-some : (b : ℕ) → 0x80 ≤ b → b < 0xF4 → (b ≡ 0xF0 → ⊥) → 0 < need b
 unfolding need
@@ -116,7 +143,7 @@ need-some b lo hi n =
     let p = eqb-false b 0xF2 e in
     let q = eqb-false b 0xF1 x in
     let r = eqb-false b 0xF3 y in
-    absurd (omega (arith, n, p, q, r)))))
+    absurd (none-of-four b a hi n q p r))))
     (λ h. rw (e, f, h) (omega arith))))
   where
     clash : true ≡ false → ⊥
@@ -147,7 +174,7 @@ slot-more l n b k h e =
     rw (← z, lt-ltb n (n + 1) (omega arith)) (le-leb (getD (set l n b) n 0) 127 (set-small l n b h)))
     (λ q.
     let m = eqb-false n k q in
-    rw (getD-set-other l n k b 0 m)
+    rw (getD-set-other l n k b 0 (λ z. m (sym z)))
     (by-bool (ltb k n)
     (λ t. let a = ltb-true k n t in rw (lt-ltb k (n + 1) (omega arith)) (rw t at e))
     (λ t.
@@ -184,3 +211,133 @@ module _ (s : Cable) (ok : sound s ≡ true) (x : Excludes s) (b : ℕ) (few : s
         le-leb (s .begun) 1 (x .begun),
         le-leb (s .begun) (s .count + 1) (omega (arith, x .some)),
       )
+
+-- the status that data bytes belong to, where there is one and no exclusive is open
+record Served (s : Cable) : Type 0 where
+  pub low : 0x80 ≤ serving s
+  pub high : serving s < 0xF4
+  pub serves : (eqb (s .running) 0 || eqb (s .running) (serving s)) ≡ true
+
+-- what is left of a call is sound
+record Sound (c : Call) : Type 0 where
+  pub ok : sound (c .after) ≡ true
+
+module _ (s : Cable) (ok : sound s ≡ true) where
+  excludes : eqb (s .status) 0xF0 ≡ true → Excludes s
+  unfolding need
+  excludes e =
+      let f = eqb-true (s .status) 0xF0 e in
+      ⊎-elim (λ z. absurd (omega (arith, f, z)))
+      (⊎-elim (λ x. x) (λ (w : Waits s). let n = w .few in absurd (omega (arith, rw f at n))))
+      (opens s ok)
+
+  served : eqb (s .status) 0xF0 ≡ false → eqb (serving s) 0 ≡ false → Served s
+  served e z =
+      ⊎-elim
+      (λ o.
+      let f = eq-eqb (s .status) 0 o in
+      let n : eqb (s .running) 0 ≡ false = rw f at z in
+      let v : voiceByte (s .running) ≡ true = rw n at (runs s ok) in
+      let a = leb-true 0x80 (s .running) (and-left (leb 0x80 (s .running)) (ltb (s .running) 0xF0) v) in
+      let b = ltb-true (s .running) 0xF0 (and-right (leb 0x80 (s .running)) (ltb (s .running) 0xF0) v) in
+      record {
+        low = rw f a;
+        high = rw f (omega (arith, b));
+        serves = rw (f, n, eq-eqb (s .running) (s .running) refl);
+      })
+      (⊎-elim (λ (x : Excludes s). absurd (eqb-false (s .status) 0xF0 e (x .status)))
+      (λ (w : Waits s).
+      let lo = w .low in
+      let f = ne-eqb (s .status) 0 (λ q. omega arith) in
+      record { low = rw f lo; high = rw f (w .high); serves = rw f (w .serves) }))
+      (opens s ok)
+
+  same : {a r : ℕ} {ws : List ℕ} → Sound (record { answer = a; read = r; sends = ws; after = s })
+  same = record { ok = ok }
+
+  data-sound : (g b : ℕ) → b < 0x80 → Sound (dataIn s g b)
+  unfolding dataIn exclusiveIn messageIn firstIn
+  data-sound g b h =
+      told Sound _
+      (λ e. told Sound _
+      (λ t. record { ok = sound-pushed s ok (excludes e) b (ltb-true (s .count) 6 t) (omega arith) })
+      (λ _. record { ok = sound-first b h }))
+      (λ e. told Sound _ (λ _. same)
+      (λ z.
+      let v = served e z in
+      told Sound _
+      (λ _. told Sound _
+      (λ n. record {
+        ok = sound-one (s .running) (serving s) b (runs s ok) (v .serves) (v .low) (v .high)
+            (eqb-true (need (serving s)) 2 n) h;
+      })
+      (λ _. record { ok = sound-runs (serving s) (v .low) }))
+      (λ _. record { ok = sound-runs (serving s) (v .low) })))
+
+  heard-sound : (g b : ℕ) → Sound (byteIn s g b)
+  unfolding byteIn realTimeIn statusIn endIn
+  heard-sound g b =
+      let fresh = sound-idle 0 refl in
+      told Sound _ (λ _. either Sound _ same same)
+      (λ hi. told Sound _ (λ lo. data-sound g b (ltb-true b 0x80 lo))
+      (λ lo. told Sound _
+      (λ _. told Sound _ (λ _. record { ok = sound-exclusive })
+      (λ n. either Sound _ (record { ok = fresh })
+      (told Sound _ (λ _. record { ok = fresh })
+      (λ f. record { ok = sound-open b (ltb-false b 0x80 lo) (leb-false 0xF4 b f) (eqb-false b 0xF0 n) }))))
+      (λ _. either Sound _ (either Sound _ (record { ok = fresh }) (record { ok = fresh }))
+      (record { ok = sound-idle (s .running) (runs s ok) }))))
+
+pub byte-sound : (s : Cable) (g b : ℕ) → sound s ≡ true → sound (byteIn s g b .after) ≡ true
+byte-sound s g b ok = heard-sound s ok g b .ok
+
+next-sound : (s : Cable) (g : ℕ) (bs : List ℕ) → sound s ≡ true → Sound (nextIn s g bs)
+unfolding nextIn
+next-sound s g [] ok = same s ok
+next-sound s g (b ∷ bs) ok = heard-sound s ok g b
+
+call-sound : (g room : ℕ) (s : Cable) (bs : List ℕ) → sound s ≡ true → Sound (oneIn g room s bs)
+unfolding oneIn fitIn callIn
+call-sound g room s bs ok =
+    either Sound _ (either Sound _ (same s ok) (either Sound _ (next-sound s g bs ok) (same s ok))) (same s ok)
+
+-- and so is what is left of a run
+record SoundRan (r : Ran Cable) : Type 0 where
+  pub ok : sound (r .left) ≡ true
+
+record SoundFrom (room : ℕ) (s : Cable) (ms : List Made) : Type 0 where
+  pub ran : SoundRan (ranIn room s ms)
+
+cons-sound : (room : ℕ) (s : Cable) (m : Made) (ms : List Made) → sound s ≡ true
+    → SoundFrom (room - length (m .call .sends)) (m .call .after) ms → SoundFrom room s (m ∷ ms)
+unfolding ranIn
+cons-sound room s m ms ok x = record { ran = either SoundRan _ (record { ok = x .ran .ok }) (record { ok = ok }) }
+
+none-sound : (room : ℕ) (s : Cable) → sound s ≡ true → SoundFrom room s []
+unfolding ranIn
+none-sound room s ok = record { ran = record { ok = ok } }
+
+ran-sound : (g : ℕ) (bs : List ℕ) (s : Cable) (room : ℕ) → sound s ≡ true → SoundFrom room s (callsIn g s bs)
+unfolding callsIn
+ran-sound g [] s room ok = none-sound room s ok
+ran-sound g (b ∷ bs) s room ok =
+    let u = byteIn s g b .after in
+    let v = byteIn u g b .after in
+    let e = byte-sound s g b ok in
+    let left = room - length (byteIn s g b .sends) in
+    cons-sound room s (made g s b) _ ok
+    (either (SoundFrom left u) (eqb (byteIn s g b .read) 1) (ran-sound g bs u left e)
+    (cons-sound left u (made g u b) _ e (ran-sound g bs v (left - length (byteIn u g b .sends)) (byte-sound u g b e))))
+
+run-sound : (g room : ℕ) (s : Cable) (bs : List ℕ) → sound s ≡ true → SoundRan (runIn g room s bs)
+unfolding runIn
+run-sound g room s bs ok =
+    either SoundRan _ (record { ok = ok }) (either SoundRan _ (ran-sound g bs s room ok .ran) (record { ok = ok }))
+
+pub proved-sound : StaysSound
+proved-sound =
+    record {
+      fresh = sound-idle 0 refl;
+      calls = λ g room s bs ok. call-sound g room s bs ok .ok;
+      runs = λ g room s bs ok. run-sound g room s bs ok .ok;
+    }

@@ -5,3 +5,5 @@ pub mod RealTime
 pub mod StaysSound
 pub mod Room
 pub mod EveryByte
+pub mod RunningStatus
+pub mod SocketRefusals

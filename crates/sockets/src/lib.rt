@@ -4,6 +4,8 @@ ghost use Rattle.sockets.specs.EveryByte.{EveryByte};
 ghost use Rattle.sockets.specs.ExclusiveReturns.{ExclusiveReturns};
 ghost use Rattle.sockets.specs.RealTime.{RealTimeApart};
 ghost use Rattle.sockets.specs.Room.{Room};
+ghost use Rattle.sockets.specs.RunningStatus.{RunningStatus};
+ghost use Rattle.sockets.specs.SocketRefusals.{SocketRefusals};
 ghost use Rattle.sockets.specs.StaysSound.{StaysSound};
 ghost use Rattle.sockets.specs.VoiceReturns.{VoiceReturns};
 
@@ -35,4 +37,14 @@ pub fn every_byte()
 // How long an output has to be.
 pub fn room()
     ensures { λ _. ⌜ Room ⌝ }
+{}
+
+// Running status and full status bytes.
+pub fn running_status()
+    ensures { λ _. ⌜ RunningStatus ⌝ }
+{}
+
+// Each answer exactly in its case, in and out.
+pub fn socket_refusals()
+    ensures { λ _. ⌜ SocketRefusals ⌝ }
 {}
