@@ -38,16 +38,14 @@ unfolding runDownBy
 down-reads room ws d = reads-most (runDown room ws) (length ws) d (words-read _ _ ws)
 
 -- what an output of the same length holds was room for
+pub stored-most : (xs out out′ : List ℕ) → out′ ≡ atStart xs out → length out′ ≡ length out → length xs ≤ length out′
+stored-most xs out out′ f l =
+    omega (arith, ap length f, length-append xs (drop (length xs) out), length-drop (length xs) out)
+
 pub writes-most : {T : Type 0} (r : Ran T) (out out′ : List ℕ) (d : Done)
     → d ≡ reported r → out′ ≡ atStart (r .sends) out → length out′ ≡ length out → d .written ≤ length out′
 writes-most r out out′ d e f l =
-    omega (
-      arith,
-      ap (λ (x : Done). x .written) e,
-      ap length f,
-      length-append (r .sends) (drop (length (r .sends)) out),
-      length-drop (length (r .sends)) out,
-    )
+    omega (arith, ap (λ (x : Done). x .written) e, stored-most (r .sends) out out′ f l)
 
 -- both, of each run
 module _ (room : ℕ) (t : List Record) (ws out out′ : List ℕ) (d : Done) (same : length out′ ≡ length out) where

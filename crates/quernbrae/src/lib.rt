@@ -1,11 +1,19 @@
 // What a caller uses: one call and a run, up and down, over the table that the caller lends, what may
 // be asked of the table, its coarse marks, all that for two hosts that share it, and one channel's
-// packets alone, under the names that C and Rust link (include/quernbrae.h).
+// packets alone, under the names that C and Rust link (include/quernbrae.h). The five-pin sockets stand
+// in a file of their own.
 //
 // No function has a `requires`. Each contract gives the report, the table and the output at exit by
 // the definitions of the crates below, on every input.
+mod sockets;
+
 use channel::Record;
 use question::KeysDown;
+pub use sockets::quernbrae_cable_idle;
+pub use sockets::quernbrae_export;
+pub use sockets::quernbrae_import;
+pub use sockets::quernbrae_run_export;
+pub use sockets::quernbrae_run_import;
 use stream::Done;
 use table::treat;
 ghost use mathlib.Core.Path.{_≡_};

@@ -1,0 +1,102 @@
+// The state of a cable.
+use crate::Cable;
+use crate::EXCLUSIVE;
+use crate::SIX;
+use crate::hearing::needed;
+ghost use mathlib.Core.Path.{_≡_};
+ghost use mathlib.Core.Bool.{cond};
+ghost use mathlib.Core.List.{[], _∷_};
+ghost use Prim.Native.Nat.{_<_};
+ghost use Rattle.cable.specs.State.{holding, pushed, slot, sound, voiceByte};
+ghost use Rattle.cable.specs.State;
+
+// One of two by a test.
+pub fn chosen(test: bool, x: u8, y: u8) -> u8
+    ensures { λ r. ⌜ r ≡ cond test x y ⌝ }
+{
+    if test { x } else { y }
+}
+
+// A status byte of a channel voice message.
+fn is_voice(b: u8) -> bool
+    ensures { λ r. ⌜ r ≡ voiceByte b ⌝ }
+{
+    (0x80 <= b) & (b < 0xF0)
+}
+
+// Nothing is held of what is open.
+pub(crate) fn fresh(running: u8, status: u8) -> Cable
+    ensures { λ r. ⌜ r ≡ holding running status 0 [] ⌝ }
+{
+    Cable {
+        running,
+        status,
+        begun: 0,
+        count: 0,
+        held: [0; 6],
+    }
+}
+
+// A cable on which nothing was heard yet.
+pub fn idle() -> Cable
+    ensures { λ r. ⌜ r ≡ State.idle 0 ⌝ }
+{
+    fresh(0, 0)
+}
+
+// One byte is held.
+pub(crate) fn first_held(running: u8, status: u8, begun: u8, byte: u8) -> Cable
+    ensures { λ r. ⌜ r ≡ holding running status begun (byte ∷ []) ⌝ }
+{
+    Cable {
+        running,
+        status,
+        begun,
+        count: 1,
+        held: [byte, 0, 0, 0, 0, 0],
+    }
+}
+
+// One more byte is held, in its place.
+pub(crate) fn with_byte(byte: u8, s: Cable) -> Cable
+    requires { ⌜ s .count < 6 ⌝ }
+    ensures { λ r. ⌜ r ≡ pushed byte s ⌝ }
+{
+    let n = s.count;
+    let at = n as usize;
+    let mut held = s.held;
+    held[at] = byte;
+    Cable {
+        running: s.running,
+        status: s.status,
+        begun: s.begun,
+        count: n + 1,
+        held,
+    }
+}
+
+// What may stand at place k where n bytes are held.
+fn is_slot(n: u8, k: u8, x: u8) -> bool
+    ensures { λ r. ⌜ r ≡ slot n k x ⌝ }
+{
+    x <= chosen(k < n, 127, 0)
+}
+
+// Whether the numbers of a cable fit together.
+pub fn is_sound(s: Cable) -> bool
+    ensures { λ r. ⌜ r ≡ sound s ⌝ }
+{
+    let n = s.count;
+    let held = s.held;
+    let runs = (s.running == 0) | is_voice(s.running);
+    let none = (s.status == 0) & ((n == 0) & (s.begun == 0));
+    let begins = (s.begun <= 1) & (s.begun <= n);
+    let exclusive = (s.status == EXCLUSIVE) & ((s.running == 0) & ((n <= SIX) & begins));
+    let known = (0x80 <= s.status) & (s.status < 0xF4);
+    let serves = (s.running == 0) | (s.running == s.status);
+    let waits = (n < needed(s.status)) & ((s.begun == 0) & serves);
+    let open = none | (exclusive | (known & waits));
+    let first = is_slot(n, 0, held[0]) & (is_slot(n, 1, held[1]) & is_slot(n, 2, held[2]));
+    let last = is_slot(n, 3, held[3]) & (is_slot(n, 4, held[4]) & is_slot(n, 5, held[5]));
+    runs & (open & (first & last))
+}

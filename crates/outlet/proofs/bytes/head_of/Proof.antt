@@ -1,0 +1,12 @@
+use borrow.Author.Needs.{needs}
+use Rattle.outlet.proofs.bytes.head_of.Statement.{statement}
+use Rattle.outlet.proofs.bytes.head_of.Tie as tie
+
+pub head-of-spec : {M : Type 1} → statement M
+head-of-spec =
+    tie.close
+    (tie.spec
+    (λ c κs. search needs)
+    (λ c κs. search needs)
+    (λ c κs. search needs)
+    (λ c. simp (c .chosen .ensures, c .before .byte2 .ensures, c .before .before .message-type .ensures)))

@@ -1,0 +1,12 @@
+pub mod InRuns
+pub mod OutRuns
+pub mod Messages
+pub mod VoiceLaws
+pub mod ExclusiveLaws
+pub mod RealTimeLaws
+pub mod SoundLaws
+pub mod RoomLaws
+pub mod EveryByteLaws
+pub mod FullLaws
+pub mod RunningLaws
+pub mod RefusalLaws

@@ -1,0 +1,9 @@
+pub mod Words
+pub mod VoiceReturns
+pub mod ExclusiveReturns
+pub mod RealTime
+pub mod StaysSound
+pub mod Room
+pub mod EveryByte
+pub mod RunningStatus
+pub mod SocketRefusals
