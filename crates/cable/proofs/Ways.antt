@@ -1,5 +1,5 @@
--- The ways of a call: whichever way its tests go, it sends at most two words, and a byte that it does not read is read by
--- the next. Assumes nothing.
+-- The ways of a call: whichever way its tests go, it sends at most two words, and a byte that it does not read is read
+-- by the next. Assumes nothing.
 use mathlib.Core.Path.{_≡_, refl}
 use mathlib.Core.Bool.{Bool, true, false}
 use mathlib.Core.List.{List, [], _∷_}

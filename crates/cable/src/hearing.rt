@@ -20,7 +20,7 @@ ghost use Rattle.cable.specs.State.{messageWord, need, packetOf};
 ghost use Rattle.cable.specs.Hearing.{byteIn, dataIn, endIn, exclusiveIn, firstIn, messageIn, realTimeIn};
 ghost use Rattle.cable.specs.Hearing.{statusIn, told};
 
-pub fn wide(b: u8) -> u32
+fn wide(b: u8) -> u32
     ensures { λ r. ⌜ (r ≡ b) × (r < 256) ⌝ }
 {
     b as u32

@@ -8,7 +8,6 @@ mod state;
 
 pub use hearing::hear;
 pub use hearing::needed;
-pub use hearing::wide;
 pub use state::chosen;
 pub use state::idle;
 pub use state::is_sound;

@@ -35,8 +35,8 @@ pub record Made : Type 0 where
 abbrev pub made : ℕ → Cable → ℕ → Made
 made g s b = record { before = s; byte = b; call = byteIn s g b }
 
--- The calls of a run over bytes, where there is always room: one for each byte, and a second one where the first did not
--- read it.
+-- The calls of a run over bytes, where there is always room: one for each byte, and a second one where the first did
+-- not read it.
 unfoldable pub callsIn : ℕ → Cable → List ℕ → List Made
 callsIn g s [] = []
 callsIn g s (b ∷ bs) =

@@ -1,5 +1,5 @@
--- A run in with room enough: it is its calls, every byte of it is read once, and what a call that reads its byte puts in
--- front. Assumes nothing.
+-- A run in with room enough: it is its calls, every byte of it is read once, and what a call that reads its byte puts
+-- in front. Assumes nothing.
 use Prim.Native.Nat.{ℕ, zero, suc, _+_, _-_, _*_, _≤_}
 use mathlib.Core.Path.{_≡_, refl, ap, _∙_}
 use mathlib.Core.Bool.{Bool, true, false, cond}

@@ -1,4 +1,5 @@
--- MT 2 packets out and in again: a word's bytes come back as the word, whatever the running status was. Assumes nothing.
+-- MT 2 packets out and in again: a word's bytes come back as the word, whatever the running status was. Assumes
+-- nothing.
 use mathlib.Core.Path.{_≡_, refl, sym, ap, _∙_}
 use mathlib.Core.Bool.{Bool, true, false, _||_, _&&_}
 use mathlib.Core.Logic.{⊎-elim}

@@ -1,5 +1,5 @@
--- `inlet::take_all`: what was done, and then the run from here, is the whole run. Twice the bytes left, and one more where
--- something is open, is less after each call.
+-- `inlet::take_all`: what was done, and then the run from here, is the whole run. Twice the bytes left, and one more
+-- where something is open, is less after each call.
 use Prim.Native.Nat.{_+_, _-_, _*_, _≤_, _<_, _^_}
 use native.Mathlib.Omega.{arith}
 use borrow.Author.Needs.{needs}
