@@ -30,9 +30,13 @@ enum {
     QUERNBRAE_NOT_SOUND = 8,      /* going up, and of a mark: the record of the channel breaks 5.2 */
     QUERNBRAE_NO_ROOM = 9,        /* the output cannot hold what the packet sends (3.4) */
     QUERNBRAE_NO_TABLE = 10,      /* the table has more or fewer than 256 records */
+    QUERNBRAE_DROPPED = 11,       /* from a cable: a byte or a message is dropped (12.2) */
+    QUERNBRAE_CUT_OFF = 12,       /* from a cable: an exclusive is cut off, and its closing packet sent (12.2) */
     QUERNBRAE_NOT_YOURS = 13,     /* of a host: the group is not its own (2.6) */
     QUERNBRAE_NOT_FOR_ROOM = 23,  /* in the beginners' room: good, but not on its list (2.5) */
-    QUERNBRAE_OUT_OF_RANGE = 24   /* no such group, channel or host: of a question, mark, giving or replay (5, 11) */
+    QUERNBRAE_OUT_OF_RANGE = 24,  /* no such group, channel or host: of a question, mark, giving or replay (5, 11), and
+                                   * of a cable (12) */
+    QUERNBRAE_NOT_FOR_CABLE = 25  /* to a cable: a packet of another type or of another group (12.4) */
 };
 
 /* The address kinds of a record (docs/RULES.md, 5.1). */
@@ -178,6 +182,50 @@ uint32_t quernbrae_host_mark_coarse(uint8_t host, const uint8_t *owners, size_t 
 uint32_t quernbrae_give_group(uint8_t *owners, size_t owners_len,
                               quernbrae_record *table, size_t table_len,
                               uint8_t group, uint8_t host);
+
+/* What is remembered of a MIDI 1.0 cable between two bytes (docs/RULES.md, 12.1). */
+typedef struct {
+    uint8_t running; /* the voice status that data bytes alone may repeat, or 0 */
+    uint8_t status;  /* that of the message that is open, or 0 */
+    uint8_t begun;   /* 1 in an exclusive of which a packet was sent */
+    uint8_t count;   /* how many bytes of what is open are held */
+    uint8_t held[6]; /* these bytes; 0 behind them */
+} quernbrae_cable;
+
+/* What an import reports: the bytes read, the words written from the output's start, and the cable after it. */
+typedef struct {
+    uint32_t answer;
+    size_t read;
+    size_t written;
+    quernbrae_cable after;
+} quernbrae_imported;
+
+/* A cable on which nothing was heard yet. */
+quernbrae_cable quernbrae_cable_idle(void);
+
+/* One byte of a cable, whose packets are of a group (docs/RULES.md, 12.3). Gives 24, 8 for a cable that is not sound, 3
+ * for no byte, 9, 12, 11, 1 or 0. With 12 the byte is not read, nor with 11 where it drops a message: the next call
+ * takes it. 24, 8, 3 and 9 change nothing. */
+quernbrae_imported quernbrae_import(quernbrae_cable cable, uint8_t group,
+                                    const uint8_t *bytes, size_t bytes_len,
+                                    uint32_t *out, size_t out_len);
+
+/* Byte after byte: 0 where all are read, 9 where a packet has no room, and 24 and 8 first. A message that is open at the
+ * end stays in the cable. An output of two words for each byte, and two more, never lacks room. */
+quernbrae_imported quernbrae_run_import(quernbrae_cable cable, uint8_t group,
+                                        const uint8_t *bytes, size_t bytes_len,
+                                        uint32_t *out, size_t out_len);
+
+/* One packet of a group as bytes for a cable (docs/RULES.md, 12.4). Gives 24, 3, 4, 25, 6, 7 with the place, 9, 1 for a
+ * packet that has no bytes, or 0. `read` counts words, and `written` bytes. */
+quernbrae_done quernbrae_export(uint8_t group,
+                                const uint32_t *words, size_t words_len,
+                                uint8_t *out, size_t out_len);
+
+/* Packet after packet, until the words end or answer 3 or 9 stops it; 24 first. */
+quernbrae_done quernbrae_run_export(uint8_t group,
+                                    const uint32_t *words, size_t words_len,
+                                    uint8_t *out, size_t out_len);
 
 #ifdef __cplusplus
 }

@@ -1,4 +1,4 @@
--- What one byte does to a cable, before room is asked for (RULES 13.2; 01 "Layouts and rules for later parts", cable
+-- What one byte does to a cable, before room is asked for (RULES 12.2; 01 "Layouts and rules for later parts", cable
 -- bytes; 02 M-100).
 use Prim.Native.Nat.{ℕ}
 use mathlib.Core.Bool.{cond, _||_}

@@ -1,4 +1,4 @@
--- Bytes of a cable, and what is remembered of it between two of them (RULES 13.1 and 13.2; 01 "Layouts and rules for
+-- Bytes of a cable, and what is remembered of it between two of them (RULES 12.1 and 12.2; 01 "Layouts and rules for
 -- later parts", cable bytes; 02 M-100).
 use Prim.Native.Nat.{ℕ, _+_, _*_, _%_, _^_}
 use mathlib.Core.Bool.{Bool, true, false, cond, _&&_, _||_}

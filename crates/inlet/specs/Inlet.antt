@@ -1,4 +1,4 @@
--- Bytes into packets (RULES 13.3; 02 M-100): one call at the bytes left, and a run, in an output of so many words.
+-- Bytes into packets (RULES 12.3; 02 M-100): one call at the bytes left, and a run, in an output of so many words.
 use Prim.Native.Nat.{ℕ, _+_, _-_}
 use mathlib.Core.List.{List, [], _∷_, _++_}
 use lib.Dec.{eqb, leb, ltb}

@@ -1,4 +1,4 @@
--- Packets into bytes (RULES 13.4; 02 M-100): the screening, the bytes of a packet, one call and a run.
+-- Packets into bytes (RULES 12.4; 02 M-100): the screening, the bytes of a packet, one call and a run.
 use Prim.Native.Nat.{ℕ, _-_}
 use mathlib.Core.Bool.{Bool, cond, not, _&&_, _||_}
 use mathlib.Core.List.{List, [], _∷_, _++_}

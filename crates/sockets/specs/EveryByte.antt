@@ -1,4 +1,4 @@
--- A run in is its calls (RULES 13.3): each is the single call in the state that the one before it left, and every byte
+-- A run in is its calls (RULES 12.3): each is the single call in the state that the one before it left, and every byte
 -- is read by one of them, by the second where the first did not read it.
 use Prim.Native.Nat.{ℕ, _≤_}
 use mathlib.Core.Path.{_≡_}

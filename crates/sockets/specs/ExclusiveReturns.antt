@@ -1,4 +1,4 @@
--- A whole exclusive out and in again (RULES 13.5; 02 M-100): its payload comes back, whatever the sizes of its packets.
+-- A whole exclusive out and in again (RULES 12.5; 02 M-100): its payload comes back, whatever the sizes of its packets.
 use Prim.Native.Nat.{ℕ, _*_, _≤_}
 use mathlib.Core.Path.{_≡_}
 use mathlib.Core.List.{List, [], _∷_, _++_}

@@ -1,4 +1,4 @@
--- Real time bytes anywhere leave all else as it was (RULES 13.5; 01 "Layouts and rules for later parts", cable bytes).
+-- Real time bytes anywhere leave all else as it was (RULES 12.5; 01 "Layouts and rules for later parts", cable bytes).
 use Prim.Native.Nat.{ℕ}
 use mathlib.Core.Path.{_≡_}
 use mathlib.Core.List.{List, [], _∷_}

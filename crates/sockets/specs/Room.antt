@@ -1,4 +1,4 @@
--- How long an output has to be (RULES 13.3): two words for each byte, and two more where an exclusive may be open.
+-- How long an output has to be (RULES 12.3): two words for each byte, and two more where an exclusive may be open.
 use Prim.Native.Nat.{ℕ, _+_, _*_, _≤_}
 use mathlib.Core.Path.{_≡_}
 use mathlib.Core.List.{List}

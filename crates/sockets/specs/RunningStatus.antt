@@ -1,4 +1,4 @@
--- Running status means what full status bytes mean (RULES 13.5; 01 "Layouts and rules for later parts", cable bytes).
+-- Running status means what full status bytes mean (RULES 12.5; 01 "Layouts and rules for later parts", cable bytes).
 use Prim.Native.Nat.{ℕ, _-_}
 use mathlib.Core.Path.{_≡_}
 use mathlib.Core.Bool.{true, _||_}

@@ -1,4 +1,4 @@
--- Each answer of the sockets exactly in its case, in the order of the request (RULES 13.3 and 13.4; 02 M-100), and what
+-- Each answer of the sockets exactly in its case, in the order of the request (RULES 12.3 and 12.4; 02 M-100), and what
 -- it leaves.
 use Prim.Native.Nat.{ℕ}
 use mathlib.Core.Path.{_≡_}

@@ -1,4 +1,4 @@
--- Every call leaves a sound cable sound (RULES 13.1; 02 M-100), whatever it answers; and so does a run.
+-- Every call leaves a sound cable sound (RULES 12.1; 02 M-100), whatever it answers; and so does a run.
 use Prim.Native.Nat.{ℕ}
 use mathlib.Core.Path.{_≡_}
 use mathlib.Core.Bool.{true}

@@ -1,4 +1,4 @@
--- Sound MT 2 packets out and in again (RULES 13.5; 02 M-100): they come back, with unused bytes zero.
+-- Sound MT 2 packets out and in again (RULES 12.5; 02 M-100): they come back, with unused bytes zero.
 use Prim.Native.Nat.{ℕ, _*_, _-_, _≤_, _<_, _^_}
 use mathlib.Core.Path.{_≡_}
 use mathlib.Core.List.{List, map}
