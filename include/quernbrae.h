@@ -210,8 +210,8 @@ quernbrae_imported quernbrae_import(quernbrae_cable cable, uint8_t group,
                                     const uint8_t *bytes, size_t bytes_len,
                                     uint32_t *out, size_t out_len);
 
-/* Byte after byte: 0 where all are read, 9 where a packet has no room, and 24 and 8 first. A message that is open at the
- * end stays in the cable. An output of two words for each byte, and two more, never lacks room. */
+/* Byte after byte: 0 where all are read, 9 where a packet has no room, and 24 and 8 first. A message that is open at
+ * the end stays in the cable. An output of two words for each byte, and two more, never lacks room. */
 quernbrae_imported quernbrae_run_import(quernbrae_cable cable, uint8_t group,
                                         const uint8_t *bytes, size_t bytes_len,
                                         uint32_t *out, size_t out_len);
