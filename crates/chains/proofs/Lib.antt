@@ -1,0 +1,4 @@
+pub mod SortLaws
+pub mod StepLaws
+pub mod CollectLaws
+pub mod PartLaws
