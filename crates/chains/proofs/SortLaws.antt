@@ -3,12 +3,12 @@ use Prim.Native.Nat.{ℕ, _<_}
 use mathlib.Core.Path.{_≡_, refl}
 use mathlib.Core.Bool.{Bool, true, false, cond, not}
 use mathlib.Core.List.{List}
-use mathlib.Core.Logic.{_⊎_, ⊎-elim}
+use mathlib.Core.Logic.{_⊎_, inl, inr, ⊎-elim}
 use native.Mathlib.Omega.{arith}
 use lib.Dec.{eqb}
 use lib.ListN.{length}
-use borrow.Author.Tests.{eqb-false}
-use Rattle.ground.proofs.Cases.{choose}
+use borrow.Author.Tests.{eqb-false, eqb-true}
+use Rattle.ground.proofs.Cases.{by-bool, choose}
 use Rattle.ump.specs.Word.{messageType}
 use Rattle.ump.specs.Packet.{first}
 use Rattle.fields.specs.Check.{badPlaceOf, goodStatus}
@@ -47,3 +47,7 @@ chain-low p = go (eqb (screen neitherType p .answer) goesOn) refl (eqb (chainBy 
     go true e true f h = absurd (⊎-elim (λ x. omega (arith, x)) (λ x. omega (arith, x)) h)
     go true e false f h = omega (arith, chain-most (first p), eqb-false (chainBy (first p)) noChain f)
     go false e b f h = absurd (⊎-elim (eqb-false (screen neitherType p .answer) goesOn e) (screen-no-address p) h)
+
+-- two numbers are the same or not
+pub same-or-not : (n m : ℕ) → (n ≡ m) ⊎ (n ≡ m → ⊥)
+same-or-not n m = by-bool (eqb n m) (λ e. inl (eqb-true n m e)) (λ e. inr (eqb-false n m e))

@@ -5,11 +5,13 @@ use mathlib.Core.Bool.{Bool, true, false, cond}
 use native.Mathlib.Omega.{arith}
 use mathlib.Core.List.{List}
 use lib.ListN.{length}
-use lib.Seq.{paste}
+use lib.Seq.{length-paste, paste}
 use lib.Dec.{leb, ltb}
-use borrow.Author.Tests.{le-leb, leb-false, lt-leb, ltb-false}
+use borrow.Author.Tests.{le-leb, leb-false, leb-true, lt-leb, ltb-false}
 use Rattle.chains.specs.declared.Chain.{Chain}
+use Rattle.ground.proofs.Cases.{choose}
 use Rattle.piece.specs.declared.Piece.{Piece}
+use Rattle.piece.specs.Piece.{Fine}
 use Rattle.chains.specs.declared.Stepped.{Stepped}
 use Rattle.chains.specs.Step.{baseOf, grown, partOf, refusedBy, stepOf, verdict, verdictBy}
 
@@ -43,3 +45,25 @@ module _ (c : Chain) (x : Piece) (a : ℕ) where
   pub part-refused : (p : List ℕ) → a ≡ verdict c (length p) x → 1 < a → p ≡ partOf c p x
   unfolding partOf
   part-refused p e h = rw (← e, lt-leb a 1 h)
+
+-- a step leaves its part as long as it was
+pub part-kept : (c : Chain) (p : List ℕ) (x : Piece) → Fine x → length (partOf c p x) ≡ length p
+unfolding partOf
+part-kept c p x f =
+    choose (λ (q : List ℕ). length q ≡ length p) (leb (verdict c (length p) x) 1)
+    (λ e. length-paste p (baseOf c) (x .bytes) (x .count) (taken _ _ _ _ _ _ (leb-true (verdict c (length p) x) 1 e) .2)
+    (omega (arith, f .few, f .places)))
+    (λ _. refl)
+
+-- the answer of a step is its verdict
+pub step-answer : (c : Chain) (n : ℕ) (x : Piece) → stepOf c n x .answer ≡ verdict c n x
+unfolding stepOf
+step-answer c n x =
+    choose (λ (s : Stepped). s .answer ≡ verdict c n x) (leb (verdict c n x) 1)
+    {x = record { answer = verdict c n x; chain = grown c x }}
+    {y = record { answer = verdict c n x; chain = refusedBy (verdict c n x) c }} (λ _. refl) (λ _. refl)
+
+-- and a piece that is taken leaves a chain that ends within its part
+pub step-within : (c : Chain) (n : ℕ) (x : Piece) → verdict c n x ≤ 1 → stepOf c n x .chain .length ≤ n
+unfolding stepOf grown
+step-within c n x h = rw (le-leb (verdict c n x) 1 h) (taken _ _ _ _ _ _ h .2)
