@@ -9,6 +9,7 @@ use flow::PANEL_BYTES;
 use flow::Table;
 use libc::STDIN_FILENO;
 use libc::STDOUT_FILENO;
+use notice::Ending;
 use ports::Intake;
 use program::Program;
 use program::Totals;
@@ -112,10 +113,18 @@ fn is_cut(s: FilterState) -> bool {
     s.ended & (0 < s.left)
 }
 
+fn ending(s: FilterState) -> Ending {
+    if is_cut(s) {
+        Ending::CutPacket
+    } else {
+        Ending::Whole
+    }
+}
+
 fn say_filter(name: &[u8], s: FilterState) {
     let totals = s.totals;
     let counts = totals.counts;
-    notice::say_filter(name, totals.read, totals.written, counts, is_cut(s));
+    notice::say_filter(name, totals.read, totals.written, counts, ending(s));
 }
 
 // A line for each packet of standard input going up, and a last one for a cut packet.
@@ -167,5 +176,5 @@ pub fn panel() {
         show(table);
     }
     let counts = totals.counts;
-    notice::say_reader(b"panel", totals.read, counts, is_cut(s));
+    notice::say_reader(b"panel", totals.read, counts, ending(s));
 }

@@ -1,5 +1,4 @@
 pub mod BoundLaws
 pub mod TableLoop
 pub mod ListLaws
-pub mod TallyLaws
 pub mod PanelLaws

@@ -1,3 +1,2 @@
-pub mod Tally
 pub mod Listing
 pub mod Panel

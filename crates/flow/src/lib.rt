@@ -7,7 +7,6 @@
 // a count over the words that were read. The panel says by its lines what a text of any length holds.
 mod lamps;
 mod lines;
-mod tally;
 
 use channel::RECORDS;
 use channel::Record;
@@ -17,6 +16,8 @@ pub use lines::list_some;
 use stream::Done;
 use table::run_from;
 use table::whole_run;
+use tally::SORTS;
+use tally::Way;
 use tally::tally_of;
 ghost use mathlib.Core.Path.{_≡_};
 ghost use lib.ListN.{length, take};
@@ -24,16 +25,12 @@ ghost use Rattle.ground.specs.Store.{atStart};
 ghost use Rattle.stream.specs.Report.{reported};
 ghost use Rattle.voice.specs.Packet.{runDown};
 ghost use Rattle.table.specs.Table.{runUp, tableAfter};
-ghost use Rattle.flow.specs.Tally.{tallyDown, tallyUp};
+ghost use Rattle.tally.specs.Tally.{tallyDown, tallyUp};
 
 // The channel records.
 pub struct Table {
     pub records: [Record; RECORDS],
 }
-
-// How many sorts of packets are counted: an answer is its own sort, and bad data at a place is the place
-// behind its answer.
-pub const SORTS: usize = 15;
 
 // A run up: the table after it, its report, and how often each sort of packet came, at the sort's
 // number. 0 stands for whatever was not refused.
@@ -78,7 +75,7 @@ pub fn up_some(table: Table, words: &[u32], out: &mut [u32]) -> TableReportAndCo
     let table = Table { records };
     let done = ran.done;
     let read = done.read;
-    let counts = tally_of(false, &words[..read]);
+    let counts = tally_of(Way::Up, &words[..read]);
     TableReportAndCounts {
         table,
         done,
@@ -95,6 +92,6 @@ pub fn down_some(words: &[u32], out: &mut [u32]) -> ReportAndCounts
 {
     let done = voice::run_down(words, out, screen::open_rule());
     let read = done.read;
-    let counts = tally_of(true, &words[..read]);
+    let counts = tally_of(Way::Down, &words[..read]);
     ReportAndCounts { done, counts }
 }

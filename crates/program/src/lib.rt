@@ -6,9 +6,9 @@
 // is handed on than the text holds.
 mod totals;
 
-use flow::SORTS;
 use flow::Table;
 use stream::Done;
+use tally::SORTS;
 pub use totals::Totals;
 ghost use mathlib.Core.Path.{_≡_};
 ghost use Prim.Native.Nat.{_≤_};

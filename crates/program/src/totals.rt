@@ -1,6 +1,6 @@
 // What the buffers of a program came to, all together.
-use flow::SORTS;
 use stream::Done;
+use tally::SORTS;
 
 // The words read and written in all, and how often each sort of packet came, at its number.
 pub struct Totals {

@@ -9,10 +9,11 @@ use argument::Number;
 use flow::Table;
 use libc::ENAMETOOLONG;
 
-// What a program takes: channels to mark, one channel by two arguments, or nothing.
+// What a program takes: channels to mark, one channel by two arguments, one group, or nothing.
 pub enum Takes {
     Channels,
     OneChannel,
+    OneGroup,
     Nothing,
 }
 
@@ -27,6 +28,12 @@ pub struct Chosen {
     pub start: Start,
     pub group: u8,
     pub channel: u8,
+}
+
+// The group that is asked for, and whether an argument forbids to start.
+pub struct ChosenGroup {
+    pub group: u8,
+    pub wrong: bool,
 }
 
 // A group or a channel by an argument, which is 0 where that is wrong or missing.
@@ -102,6 +109,7 @@ impl Start {
         match takes {
             Takes::Channels => self.and_channel(name, i),
             Takes::OneChannel => self.and_wrong(name, b": takes GROUP and CHANNEL alone: ", i),
+            Takes::OneGroup => self.and_wrong(name, b": takes GROUP alone: ", i),
             Takes::Nothing => self.and_wrong(name, b": takes no arguments: ", i),
         }
     }
@@ -135,14 +143,8 @@ fn number_at(i: usize) -> Number {
     }
 }
 
-fn number_taken(name: &[u8], missing: &[u8], what: &[u8], i: usize) -> OneNumber {
-    if os::arg_count() <= i {
-        notice::say_wrong(name, missing, b"", false);
-        return OneNumber {
-            number: 0,
-            wrong: true,
-        };
-    }
+// The same with a line for one that names none.
+fn number_named(name: &[u8], what: &[u8], i: usize) -> OneNumber {
     let number = number_at(i);
     match number {
         Number::None => {
@@ -157,6 +159,17 @@ fn number_taken(name: &[u8], missing: &[u8], what: &[u8], i: usize) -> OneNumber
             wrong: false,
         },
     }
+}
+
+fn number_taken(name: &[u8], missing: &[u8], what: &[u8], i: usize) -> OneNumber {
+    if os::arg_count() <= i {
+        notice::say_wrong(name, missing, b"", false);
+        return OneNumber {
+            number: 0,
+            wrong: true,
+        };
+    }
+    number_named(name, what, i)
 }
 
 // The channel that the two arguments name, by its group and its own number, and a fresh table.
@@ -178,5 +191,26 @@ pub fn channel_chosen(name: &[u8]) -> Chosen {
         start,
         group: group.number,
         channel: channel.number,
+    }
+}
+
+// The group that the first argument names, or 0 where there is none.
+fn group_taken(name: &[u8]) -> OneNumber {
+    if os::arg_count() <= 1 {
+        return OneNumber {
+            number: 0,
+            wrong: false,
+        };
+    }
+    number_named(name, b": not a GROUP, 0 to 15: ", 1)
+}
+
+// The group that the only argument names. Any further one is wrong.
+pub fn group_chosen(name: &[u8]) -> ChosenGroup {
+    let group = group_taken(name);
+    let rest = taken_from(name, Takes::OneGroup, 2);
+    ChosenGroup {
+        group: group.number,
+        wrong: group.wrong | rest.wrong,
     }
 }

@@ -5,10 +5,10 @@ use Rattle.program.proofs.totals.Totals.and.Statement.{statement}
 use Rattle.program.proofs.totals.Totals.and.Tie as tie
 
 abbrev Inv-loop : tie.InvT-loop
-Inv-loop self done more counts₀ i₀ counts i = i ≤ 15
+Inv-loop self done more counts₀ i₀ counts i = i ≤ 33
 
 abbrev μ-loop : tie.MeasureT-loop
-μ-loop self done more counts₀ i₀ counts i = 15 - i
+μ-loop self done more counts₀ i₀ counts i = 33 - i
 
 pub and-spec : {M : Type 1} → statement M
 and-spec =

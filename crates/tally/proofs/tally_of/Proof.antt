@@ -1,24 +1,19 @@
--- `flow::tally::tally_of` meets its contract. The loop's invariant: the sorts before a place are counted, and those from
+-- `tally::tally_of` meets its contract. The loop's invariant: the sorts before a place are counted, and those from
 -- there on are left. The measure is the words left. Assumes nothing.
 use Prim.Native.Nat.{_-_}
 use native.Mathlib.Omega.{arith}
 use borrow.Author.Needs.{needs}
 use lib.ListN.{getD, length}
 use Rattle.ump.proofs.PacketLaws.{size-range}
-use Rattle.flow.proofs.TallyLaws.{Counts, counts-end, counts-more, counts-start, tally-most}
-use Rattle.flow.proofs.tally.tally_of.Statement.{statement}
-use Rattle.flow.proofs.tally.tally_of.Tie as tie
+use Rattle.tally.proofs.TallyLaws.{Counts, counts-end, counts-more, counts-start}
+use Rattle.tally.proofs.tally_of.Statement.{statement}
+use Rattle.tally.proofs.tally_of.Tie as tie
 
 abbrev Inv-loop : tie.InvT-loop
-Inv-loop down words counts₀ at₀ counts at = Counts down words counts at
+Inv-loop way words counts₀ at₀ counts at = Counts way words counts at
 
 abbrev μ-loop : tie.MeasureT-loop
-μ-loop down words counts₀ at₀ counts at = length words - at
-
-counted-requires : tie.Need-counted-requires Inv-loop μ-loop
-counted-requires c κs =
-    let l = c .before .before .loop in
-    rw (l .inv .are) (omega (arith, tally-most (l .inv .before) (c .sort-at .result), l .inv .few, c .before .loop-test .taken, c .before .before .before .before .good .1 .0 .0))
+μ-loop way words counts₀ at₀ counts at = length words - at
 
 add-at : tie.Need-add-at Inv-loop μ-loop
 add-at c =
@@ -43,8 +38,9 @@ loop-again : tie.Need-loop-again Inv-loop μ-loop
 loop-again c =
     let a = c .before .before .before .before .before .before .before .args in
     let l = c .before .before .before .before .before .loop in
-    rw (c .size .ensures, c .before .before .counted .ensures)
-    (counts-more (a .down) (a .words .now) (l .counts) (l .at) (l .inv) (c .before .before .before .before .loop-test .taken) _ (c .before .before .before .sort-at .ensures))
+    let g = c .before .before .before .before .before .before .before .good in
+    rw (c .size .ensures, c .before .before .one-more .ensures)
+    (counts-more (a .way) (a .words .now) (l .counts) (l .at) (l .inv) (c .before .before .before .before .loop-test .taken) (omega (arith, g .1 .0 .0)) _ (c .before .before .before .sort-at .ensures))
 
 returns : tie.Need-returns Inv-loop μ-loop
 returns c = let l = c .before .loop in counts-end _ _ (l .counts) (l .at) (l .inv) (c .loop-test .left)
@@ -57,7 +53,7 @@ tally-of-spec =
     μ-loop
     (λ c. counts-start _ _)
     (λ c κs. search needs)
-    counted-requires
+    (λ c κs. search needs)
     (λ c. search needs) (λ c. search needs) (λ c κs. search needs)
     add-at
     loop-less
