@@ -19,9 +19,9 @@ use Rattle.ump.proofs.PacketLaws.{at-none, packet-near, packet-size}
 use Rattle.stream.specs.declared.Done.{Done}
 use Rattle.stream.specs.Answers.{badAddress, cutPacket, noRoom, sent}
 use Rattle.stream.specs.Call.{Call, answerOf, fit, leftOf, readOf, sentOf, stopped, went}
-use Rattle.stream.specs.Report.{counting}
+use Rattle.stream.specs.Report.{counting, reported}
 use Rattle.stream.specs.Run.{Ran, run}
-use Rattle.stream.proofs.RunLaws.{by-first-call}
+use Rattle.stream.proofs.RunLaws.{by-first-call, words-read}
 use Rattle.stream.proofs.RunLoop.{Inside}
 use Rattle.screen.specs.Screen.{goesOn, screenBy}
 use Rattle.chains.specs.declared.Chains.{Chains}
@@ -33,7 +33,8 @@ use Rattle.chains.proofs.CollectLaws.{buffer-same}
 use Rattle.chains.proofs.WithinLaws.{reads, reads-within, stands-within}
 use Rattle.tally.specs.Tally.{counted, sortOf}
 use Rattle.text.specs.Lines.{placeAfter, withRow}
-use Rattle.gather.specs.Gather.{Held, collectedAt, gather, gatheredAfter, held, heldAfter, lineAfter, lineAt, longest}
+use Rattle.gather.specs.Gather.{Held, collectedAt, gather, gatheredAfter, gathering, held, heldAfter, lineAfter}
+use Rattle.gather.specs.Gather.{lineAt, longest}
 use Rattle.gather.proofs.LineLaws.{line-short}
 
 -- a cut packet leaves the buffer as it was
@@ -183,3 +184,8 @@ module _ (h : Held) (s text : List ℕ) (d : Done) where
         rw (ec, er, eb),
         y .1 ∙ sets-eq (lineAt h s) text (d .written) (omega (arith, short, some)),
       )
+
+-- a run reads no more words than there are
+pub run-read : (d : Done) (room : ℕ) (h : Held) (s : List ℕ) → d ≡ reported (gathering room h s) → d .read ≤ length s
+unfolding gathering
+run-read d room h s e = omega (arith, ap (λ (x : Done). x .read) e, words-read gather (room, h) s)

@@ -3,9 +3,9 @@ use Prim.Native.Nat.{_*_, _≤_}
 use mathlib.Core.Path.{sym, _∙_}
 use native.Mathlib.Omega.{arith}
 use borrow.Author.Needs.{needs}
-use lib.ListN.{length, length-take}
+use lib.ListN.{length, length-take, take}
 use lib.Seq.{length-take-le}
-use Rattle.filter.proofs.BufferLaws.{words-most}
+use Rattle.program.proofs.Bounds.{words-most}
 use Rattle.filter.proofs.turn.Statement.{statement}
 use Rattle.filter.proofs.turn.Tie as tie
 
@@ -24,8 +24,9 @@ translating c = c .before .before .before .before .before .before .before .befor
 -- the words fit in their buffer, and four bytes were read for each
 filled : (c : tie.After-words-of) → (c .words-of .result ≤ length (c .words-of .last .1 .0)) × (4 * c .words-of .result ≤ length (reading c .read-more .last .0))
 filled c =
-    let w = words-most (c .words-of .result) (reading c .read-more .result .have) (reading c .read-more .last .0) (entry (reading c) .args .words .now) (c .words-of .ensures .0) in
-    (omega (arith, w .0, c .words-of .kept .1 .0), w .1)
+    let r = reading c .read-more in
+    let w = words-most (c .words-of .result) (take (r .result .have) (r .last .0)) (entry (reading c) .args .words .now) (c .words-of .ensures .0) in
+    (omega (arith, w .0, c .words-of .kept .1 .0), omega (arith, w .1, length-take (r .result .have) (r .last .0)))
 
 mul-carry : tie.Need-mul-carry
 mul-carry c =
@@ -49,4 +50,5 @@ turn-spec =
     (λ c. let k = c .before .before .before .before .before .before in k .carry .kept .0 ∙ reading (filling (translating k)) .read-more .kept .0)
     (λ c. filling (translating (c .before .before .before .before .before .before)) .words-of .kept .1 .0)
     (λ c. translating (c .before .before .before .before .before .before) .translate .kept .1 .1 .1 .1 .0)
-    (λ c. translating (c .before .before .before .before .before .before) .translate .kept .1 .1 .1 .1 .1 .0))
+    (λ c. translating (c .before .before .before .before .before .before) .translate .kept .1 .1 .1 .1 .1 .0)
+    (λ c. search needs))
