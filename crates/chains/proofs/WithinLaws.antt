@@ -27,7 +27,7 @@ piece-low s e = chain-low (packet s) (inl e)
 
 module _ (cs : Chains) (b s : List ℕ) where
   -- the part of a piece's chain after it, and that it is as long
-  pub own-part : List ℕ
+  unfoldable pub own-part : List ℕ
   own-part = partOf (chainAt (chainOf s) cs) (partAt (chainOf s) b) (pieceOf s)
 
   pub own-length : refusalOf s ≡ goesOn → length own-part ≡ share b

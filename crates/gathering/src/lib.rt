@@ -1,0 +1,31 @@
+// Theorems about whole messages out of packets: what chains collect over lists of packets, that they do not
+// touch, and what each refusal leaves. They are about the definitions that `chains::collect` cites.
+//
+// Each stands as a type in specs/ and is proved in proofs/. The functions below do nothing and ensure
+// them, so that a check names each.
+ghost use Rattle.gathering.specs.Claims.{Alone, Dropped, Finished, Made, NoTouch};
+
+// A packet changes no chain and no part but its own.
+pub fn no_touch()
+    ensures { λ _. ⌜ NoTouch ⌝ }
+{}
+
+// What one chain collects depends on its own packets alone.
+pub fn alone()
+    ensures { λ _. ⌜ Alone ⌝ }
+{}
+
+// A message in packets that fits is finished, and its bytes are the payloads in order.
+pub fn finished()
+    ensures { λ _. ⌜ Finished ⌝ }
+{}
+
+// Wherever a chain finishes, its bytes are the payloads of its packets in order.
+pub fn made()
+    ensures { λ _. ⌜ Made ⌝ }
+{}
+
+// What a refusal leaves of the chain and of its part.
+pub fn dropped()
+    ensures { λ _. ⌜ Dropped ⌝ }
+{}
