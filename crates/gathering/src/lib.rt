@@ -4,6 +4,7 @@
 // Each stands as a type in specs/ and is proved in proofs/. The functions below do nothing and ensure
 // them, so that a check names each.
 ghost use Rattle.gathering.specs.Claims.{Alone, Dropped, Finished, Made, NoTouch};
+ghost use Rattle.gathering.specs.InOrder.{InOrder};
 
 // A packet changes no chain and no part but its own.
 pub fn no_touch()
@@ -28,4 +29,9 @@ pub fn made()
 // What a refusal leaves of the chain and of its part.
 pub fn dropped()
     ensures { λ _. ⌜ Dropped ⌝ }
+{}
+
+// Each answer is given exactly in its case, in the order of the cases.
+pub fn in_order()
+    ensures { λ _. ⌜ InOrder ⌝ }
 {}
