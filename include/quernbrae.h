@@ -31,6 +31,7 @@ enum {
     QUERNBRAE_NO_ROOM = 9,        /* the output cannot hold what the packet sends (3.4) */
     QUERNBRAE_NO_TABLE = 10,      /* the table has more or fewer than 256 records */
     QUERNBRAE_NOT_YOURS = 13,     /* of a host: the group is not its own (2.6) */
+    QUERNBRAE_NO_COUNTERPART = 14, /* of a maker identity: it has no such form in the other kind (12) */
     QUERNBRAE_NOT_FOR_ROOM = 23,  /* in the beginners' room: good, but not on its list (2.5) */
     QUERNBRAE_OUT_OF_RANGE = 24   /* no such group, channel or host: of a question, mark, giving or replay (5, 11) */
 };
@@ -74,6 +75,19 @@ typedef struct {
 
 /* Stands for the lowest key where none is down. */
 enum { QUERNBRAE_NO_KEY = 255 };
+
+/* A maker identity of 16 bits. */
+typedef struct {
+    uint32_t answer; /* 0 or 14 */
+    uint32_t number; /* 0 where there is none */
+} quernbrae_identity;
+
+/* A maker identity of bytes. */
+typedef struct {
+    uint32_t answer;  /* 0 or 14 */
+    uint32_t count;   /* 1 or 3, or 0 where there is none */
+    uint8_t bytes[4]; /* the first count of them, and zeros behind these */
+} quernbrae_maker;
 
 /* The empty record: no key down, kind none, all five numbers missing, no mark. Fill a table with it before the first
  * packet (docs/RULES.md, 5.1). */
@@ -178,6 +192,14 @@ uint32_t quernbrae_host_mark_coarse(uint8_t host, const uint8_t *owners, size_t 
 uint32_t quernbrae_give_group(uint8_t *owners, size_t owners_len,
                               quernbrae_record *table, size_t table_len,
                               uint8_t group, uint8_t host);
+
+/* The form of 16 bits of a maker identity, from its old form (docs/RULES.md, 12): one byte of 1 to 127, or 0 and two
+ * bytes of at most 127. Any other bytes are answered 14. */
+quernbrae_identity quernbrae_identity_new(const uint8_t *old, size_t old_len);
+
+/* And back: 0, what has bit 15 clear and is above 127, and what has bits 15 and 7 set, is answered 14. What one of the
+ * two gives with answer 0, the other turns back into what it was. */
+quernbrae_maker quernbrae_identity_old(uint16_t number);
 
 #ifdef __cplusplus
 }

@@ -1,10 +1,12 @@
 // What a caller uses: one call and a run, up and down, over the table that the caller lends, what may
-// be asked of the table, its coarse marks, all that for two hosts that share it, and one channel's
-// packets alone, under the names that C and Rust link (include/quernbrae.h).
+// be asked of the table, its coarse marks, all that for two hosts that share it, one channel's packets
+// alone, and maker identities, under the names that C and Rust link (include/quernbrae.h).
 //
 // No function has a `requires`. Each contract gives the report, the table and the output at exit by
 // the definitions of the crates below, on every input.
 use channel::Record;
+use identity::Identity;
+use identity::Maker;
 use question::KeysDown;
 use stream::Done;
 use table::treat;
@@ -20,6 +22,7 @@ ghost use Rattle.mark.specs.Mark.{markAnswer, tableMarked};
 ghost use Rattle.hosts.specs.Hosts.{hostKeysAsked, hostMarkAnswer, hostOneDown, hostOneUp, hostRunDown, hostRunUp};
 ghost use Rattle.hosts.specs.Hosts.{hostTableMarked};
 ghost use Rattle.handover.specs.Handover.{giveAnswer, ownersAfter, tableGiven};
+ghost use Rattle.identity.specs.Identity.{identityFrom, makerFrom, newOf, oldOf};
 ghost use Rattle.lesson.specs.Lesson.{lesson, lessonReport};
 ghost use Rattle.voice.specs.Packet.{oneDown, runDown};
 ghost use Rattle.table.specs.Table.{beginnersOneUp, beginnersRunUp, oneUp, runUp, tableAfter};
@@ -308,4 +311,20 @@ pub extern "C" fn quernbrae_give_group(
     let given = handover::give(owners, table.len(), group, host);
     handover::empty_from(table, given.from, given.count);
     given.answer
+}
+
+// The form of 16 bits of a maker identity, from its bytes.
+#[no_mangle]
+pub extern "C" fn quernbrae_identity_new(old: &[u8]) -> Identity
+    ensures { λ r. ⌜ r ≡ identityFrom (newOf (now (old .entry))) ⌝ }
+{
+    identity::identity_new(old)
+}
+
+// The bytes of a maker identity, from its form of 16 bits.
+#[no_mangle]
+pub extern "C" fn quernbrae_identity_old(number: u16) -> Maker
+    ensures { λ r. ⌜ r ≡ makerFrom (oldOf number) ⌝ }
+{
+    identity::identity_old(number)
 }
