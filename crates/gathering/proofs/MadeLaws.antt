@@ -57,11 +57,11 @@ module _ (c : Chain) (x : Piece) where
   unfolding baseOf
   base-open e = rw e
 
-  out-closed : eqb (c .packets) 0 ≡ true → leb (x .format) 1 ≡ false → strays c x ≡ true
+  pub out-closed : eqb (c .packets) 0 ≡ true → leb (x .format) 1 ≡ false → strays c x ≡ true
   unfolding strays
   out-closed e f = rw (e, f)
 
-  out-open : eqb (c .packets) 0 ≡ false → leb (x .format) 1 ≡ true → strays c x ≡ true
+  pub out-open : eqb (c .packets) 0 ≡ false → leb (x .format) 1 ≡ true → strays c x ≡ true
   unfolding strays
   out-open e f = rw (e, f)
 
@@ -99,7 +99,7 @@ holds h qs p s e v =
 
 -- a piece that is refused, and a packet that is no piece
 module _ (h : Held) (p : List ℕ) where
-  shut : refusalOf p ≡ goesOn → leb (verdict (h .chain) (length (h .part)) (pieceOf p)) 1 ≡ false → one h p .chain .packets ≡ 0
+  pub shut : refusalOf p ≡ goesOn → leb (verdict (h .chain) (length (h .part)) (pieceOf p)) 1 ≡ false → one h p .chain .packets ≡ 0
   unfolding one stepOf
   shut e f = rw (e, f) (dropped-closed (h .chain) (verdict (h .chain) (length (h .part)) (pieceOf p)))
 
@@ -111,11 +111,11 @@ module _ (h : Held) (p : List ℕ) where
   unfolding one
   idle n = rw (ne-eqb (refusalOf p) goesOn n)
 
-  told-idle : (refusalOf p ≡ goesOn → ⊥) → told h p ≡ refusalOf p
+  pub told-idle : (refusalOf p ≡ goesOn → ⊥) → told h p ≡ refusalOf p
   unfolding told
   told-idle n = rw (ne-eqb (refusalOf p) goesOn n)
 
-idle-next : (qs : List (List ℕ)) (p : List ℕ) → (refusalOf p ≡ goesOn → ⊥) → next qs p ≡ qs
+pub idle-next : (qs : List (List ℕ)) (p : List ℕ) → (refusalOf p ≡ goesOn → ⊥) → next qs p ≡ qs
 unfolding next
 idle-next qs p n = rw (ne-eqb (refusalOf p) goesOn n)
 
@@ -138,7 +138,7 @@ unfolding since
 since-last [] qs z = refl
 since-last (p ∷ ps) qs z = since-last ps (next qs p) z
 
-run-full : (ps : List (List ℕ)) (w : World) → All32 w → All32 (run w ps)
+pub run-full : (ps : List (List ℕ)) (w : World) → All32 w → All32 (run w ps)
 unfolding run
 run-full [] w f = f
 run-full (p ∷ ps) w f = run-full ps (after w p) (apart w p f .same .0)

@@ -30,7 +30,7 @@ use Rattle.chains.proofs.StepLaws.{step-answer}
 use Rattle.chains.proofs.CollectLaws.{report-beside, report-kept, report-piece}
 use Rattle.chains.proofs.WithinLaws.{reads}
 use Rattle.claims.specs.Refusals.{Case, case, numbered}
-use Rattle.gathering.specs.InOrder.{InOrder, casesBefore, casesOfPiece, hasChain}
+use Rattle.gathering.specs.InOrder.{InOrder, casesAt, hasChain, isOpen}
 
 -- no chain: of another type
 no-chain : (w : ℕ) → eqb (chainBy w) noChain ≡ not (hasChain w)
@@ -55,7 +55,15 @@ sorted-is : (p : List ℕ) → let w = first p in
 unfolding sortBy ofChain screenBy outside admitted
 sorted-is p = rw (no-chain (first p), ne-eqb (messageType (first p)) neitherType (λ e. omega (arith, e)))
 
--- the cases before the chain is asked, and then others
+-- the cases before the chain is asked
+abbrev casesBefore : List ℕ → List Case
+casesBefore p =
+    let w = first p in
+    case cutPacket (eqb (length p) 0) ∷ case reservedType (reserved (messageType w))
+    ∷ case badStatus (not (goodStatus w)) ∷ case badData (not (goodFields (checkedFields w (second p))))
+    ∷ case takenIn (not (hasChain w)) ∷ case badAddress (strangeAddress w) ∷ []
+
+-- and then others
 before-then : (p : List ℕ) (cs : List Case)
     → numbered (casesBefore p ++ cs) ≡ cond (eqb (sorted p .answer) goesOn) (numbered cs) (sorted p .answer)
 before-then p cs =
@@ -75,6 +83,24 @@ before-then p cs =
     go false false false true false true = refl
     go false false false true false false = refl
 
+-- what holds of each answer that there is before the chain is asked
+pub sorted-cases : (P : ℕ → Type 0) (p : List ℕ)
+    → P cutPacket → P reservedType → P badStatus → P badData → P takenIn → P badAddress → P goesOn
+    → P (sorted p .answer)
+sorted-cases P p cut res status data-bad other strange asked =
+    rw (sorted-is p)
+    (go (eqb (length p) 0) (reserved (messageType (first p))) (not (goodStatus (first p)))
+    (goodFields (checkedFields (first p) (second p))) (not (hasChain (first p))) (strangeAddress (first p)))
+  where
+    go : (a b d e h x : Bool) → P (sorting p a b d e h x .answer)
+    go true b d e h x = cut
+    go false true d e h x = res
+    go false false true e h x = status
+    go false false false false h x = data-bad
+    go false false false true true x = other
+    go false false false true false true = strange
+    go false false false true false false = asked
+
 -- a place is told exactly with 7
 sorted-place : (p : List ℕ) → sorted p .place ≡ placeTold (sorted p .answer) p
 sorted-place p =
@@ -91,7 +117,14 @@ sorted-place p =
     go false false false true false true = refl
     go false false false true false false = refl
 
--- the cases of a piece are its verdict
+-- the cases of a piece
+abbrev casesOfPiece : Chain → ℕ → Piece → List Case
+casesOfPiece c n x =
+    case outOfTurn (cond (isOpen c) (begins x || not (eqb (c .shared) (x .shared))) (not (begins x)))
+    ∷ case tooManyPackets (isOpen c && leb most (c .packets))
+    ∷ case tooLong (ltb n (cond (isOpen c) (c .length) 0 + x .count)) ∷ case takenIn (not (finishes x)) ∷ []
+
+-- are its verdict
 piece-cases : (c : Chain) (n : ℕ) (x : Piece) → numbered (casesOfPiece c n x) ≡ verdict c n x
 unfolding verdictBy strays baseOf
 piece-cases c n x = by-bool (eqb (c .packets) 0) closed opened
@@ -128,8 +161,7 @@ no-data c n x = go (strays c x) (leb most (c .packets)) (ltb n (baseOf c + x .co
     go false false false false = refl
 
 module _ (cs : Chains) (b s : List ℕ) where
-  answers : collectedOf cs b s .answer
-      ≡ numbered (casesBefore (packet s) ++ casesOfPiece (chainAt (chainOf s) cs) (share b) (pieceOf s))
+  answers : collectedOf cs b s .answer ≡ numbered (casesAt (chainAt (chainOf s) cs) (share b) (packet s))
   unfolding collected keptOpen beside
   answers = go (same-or-not (refusalOf s) goesOn) (same-or-not (refusalOf s) badAddress) ∙ sym (before-then (packet s) rest)
     where

@@ -8,13 +8,13 @@ use native.Mathlib.Omega.{arith}
 use native.Mathlib.Nat.{zero-add}
 use lib.ListN.{length, getD, take, drop, replicate, length-append, length-drop}
 use lib.Seq.{drop-append-add, drop-drop, length-take-le, paste, take-append-seam}
-use lib.Dec.{eqb}
-use borrow.Author.Tests.{eq-eqb, eqb-true, le-leb, le-ltb, lt-leb, ne-eqb}
+use lib.Dec.{eqb, ltb}
+use borrow.Author.Tests.{eq-eqb, eqb-true, le-leb, le-ltb, lt-leb, lt-ltb, ne-eqb}
 use Rattle.ump.specs.Packet.{first, packet}
 use Rattle.ump.specs.Word.{groupOf, messageType}
 use Rattle.screen.specs.Screen.{goesOn}
 use Rattle.piece.specs.declared.Piece.{Piece}
-use Rattle.piece.specs.Piece.{Fine, chainFor, exclusivePiece, payload, pieceFor}
+use Rattle.piece.specs.Piece.{Fine, chainFor, exclusive, exclusivePiece, flex, flexPiece, noChain, payload, pieceFor}
 use Rattle.chains.specs.Step.{baseOf, grown, partOf, stepOf, strays, verdict, verdictBy}
 use Rattle.chains.specs.Collect.{chainAt, chainOf, partAt, pieceOf, refusalOf, share}
 use Rattle.gathering.specs.Claims.{All32, Finished, Held, Message, Middles, Piecewise, World, answers, gathered, heldAt, holding, one, only, payloads, run, tells, told}
@@ -105,19 +105,24 @@ added : List (List ℕ) → ℕ
 added [] = 0
 added (p ∷ ps) = pieceOf p .adds + added ps
 
--- an exclusive adds none
-adds-none : (p : List ℕ) → chainOf p < 16 → pieceOf p .adds ≡ 0
-unfolding chainFor pieceFor exclusivePiece
-adds-none p h = go (messageType w) refl (eqb (messageType w) 3) refl (eqb (messageType w) 13) refl h
+-- an exclusive adds none, and Flex Data one
+pub adds-is : (p : List ℕ) → chainOf p < 32 → pieceOf p .adds ≡ cond (ltb (chainOf p) 16) 0 1
+unfolding chainFor pieceFor exclusivePiece flexPiece
+adds-is p h = go (messageType w) refl (eqb (messageType w) exclusive) refl (eqb (messageType w) flex) refl h
   where
     w : ℕ
     w = first (packet p)
 
-    go : (n : ℕ) → messageType w ≡ n → (c : Bool) → eqb n 3 ≡ c → (d : Bool) → eqb n 13 ≡ d
-        → cond c (groupOf w .0) (cond d (16 + groupOf w .0) 32) < 16 → pieceOf p .adds ≡ 0
-    go n e c f false g h = rw (e, g)
-    go n e true f true g h = absurd (omega (arith, eqb-true n 3 f, eqb-true n 13 g))
-    go n e false f true g h = absurd (omega arith)
+    go : (n : ℕ) → messageType w ≡ n → (c : Bool) → eqb n exclusive ≡ c → (d : Bool) → eqb n flex ≡ d
+        → cond c (groupOf w .0) (cond d (16 + groupOf w .0) noChain) < 32
+        → pieceOf p .adds ≡ cond (ltb (cond c (groupOf w .0) (cond d (16 + groupOf w .0) noChain)) 16) 0 1
+    go n e true f true g h = absurd (omega (arith, eqb-true n exclusive f, eqb-true n flex g))
+    go n e true f false g h = rw (e, g, lt-ltb (groupOf w .0) 16 (omega arith))
+    go n e false f true g h = rw (e, g, le-ltb (16 + groupOf w .0) 16 (omega arith))
+    go n e false f false g h = absurd (omega arith)
+
+adds-none : (p : List ℕ) → chainOf p < 16 → pieceOf p .adds ≡ 0
+adds-none p h = adds-is p (omega arith) ∙ rw (lt-ltb (chainOf p) 16 h)
 
 added-none : (k sh : ℕ) (ms : List (List ℕ)) → Middles k sh ms → k < 16 → added ms ≡ 0
 unfolding added

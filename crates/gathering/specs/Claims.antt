@@ -6,8 +6,8 @@ use mathlib.Core.Bool.{Bool, cond}
 use mathlib.Core.Logic.{_⊎_}
 use mathlib.Core.List.{List, [], _∷_, _++_}
 use lib.ListN.{length, take, drop, replicate}
-use lib.Dec.{eqb}
-use Rattle.stream.specs.Answers.{outOfTurn, sent, takenIn}
+use lib.Dec.{eqb, ltb}
+use Rattle.stream.specs.Answers.{outOfTurn, sent, takenIn, tooManyPackets}
 use Rattle.screen.specs.Screen.{goesOn}
 use Rattle.piece.specs.Piece.{complete, continued, end, payload, start}
 use Rattle.chains.specs.declared.Chain.{Chain}
@@ -168,6 +168,16 @@ abbrev pub Made : Type 0
 Made =
     (k : ℕ) (w : World) (ps : List (List ℕ)) (z : List ℕ) → k < 32 → All32 w → chainAt k (w .chains) .packets ≡ 0 →
     chainOf z ≡ k → answer (run w ps) z ≡ sent → Holds (heldAt k (after (run w ps) z)) (since [] (only k ps ++ z ∷ []))
+
+-- Packets are counted, those of an exclusive as one: no exclusive has too many, and of Flex Data one is too many where
+-- the chain has 32 since its start.
+pub record Counted : Type 0 where
+  pub number : (k : ℕ) (w : World) (ps : List (List ℕ)) → k < 32 → All32 w → chainAt k (w .chains) .packets ≡ 0
+      → let n = chainAt k (run w ps .chains) .packets in
+      (n ≡ 0) ⊎ ((n ≡ cond (ltb k 16) 1 (length (since [] (only k ps)))) × (n ≤ most))
+  pub too-many : (k : ℕ) (w : World) (ps : List (List ℕ)) (z : List ℕ)
+      → k < 32 → All32 w → chainAt k (w .chains) .packets ≡ 0 → chainOf z ≡ k → answer (run w ps) z ≡ tooManyPackets
+      → (16 ≤ k) × (length (since [] (only k ps)) ≡ most)
 
 -- What a refusal leaves of a chain and its part.
 pub record Left (h : Held) (p : List ℕ) : Type 0 where

@@ -2,7 +2,7 @@
 use Prim.Native.Nat.{ℕ, _+_}
 use mathlib.Core.Path.{_≡_}
 use mathlib.Core.Bool.{Bool, cond, not, _&&_, _||_}
-use mathlib.Core.List.{List, [], _∷_, _++_}
+use mathlib.Core.List.{List, [], _∷_}
 use lib.ListN.{length}
 use lib.Dec.{eqb, leb, ltb}
 use Rattle.ump.specs.Word.{messageType}
@@ -12,12 +12,11 @@ use Rattle.stream.specs.Answers.{badAddress, badData, badStatus, cutPacket, out
 use Rattle.stream.specs.Answers.{tooLong, tooManyPackets}
 use Rattle.stream.specs.Report.{placeTold}
 use Rattle.screen.specs.Screen.{reserved}
-use Rattle.piece.specs.declared.Piece.{Piece}
-use Rattle.piece.specs.Piece.{addressOf, exclusive, flex}
+use Rattle.piece.specs.Piece.{addressOf, exclusive, flex, pieceIn}
 use Rattle.chains.specs.declared.Chain.{Chain}
 use Rattle.chains.specs.declared.Chains.{Chains}
 use Rattle.chains.specs.Step.{begins, finishes, most}
-use Rattle.chains.specs.Collect.{chainAt, chainOf, collectedOf, pieceOf, share}
+use Rattle.chains.specs.Collect.{chainAt, chainOf, collectedOf, share}
 use Rattle.claims.specs.Refusals.{Case, case, numbered}
 
 -- a chain that has begun
@@ -28,23 +27,19 @@ isOpen c = not (eqb (c .packets) 0)
 abbrev pub hasChain : ℕ → Bool
 hasChain w = eqb (messageType w) exclusive || eqb (messageType w) flex
 
--- The cases of a packet p that need no chain: 3, 4, 6 and 7; 1 for a packet of another type; 17.
-abbrev pub casesBefore : List ℕ → List Case
-casesBefore p =
+-- The cases of a packet p where its chain is c and a part has n bytes, in their order: 3, 4, 6 and 7; 1 for a packet of
+-- another type; 17, 15, 16 and 18; and 1 for a piece that does not finish its message.
+abbrev pub casesAt : Chain → ℕ → List ℕ → List Case
+casesAt c n p =
     let w = first p in
+    let x = pieceIn p in
     case cutPacket (eqb (length p) 0)
     ∷ case reservedType (reserved (messageType w))
     ∷ case badStatus (not (goodStatus w))
     ∷ case badData (not (goodFields (checkedFields w (second p))))
     ∷ case takenIn (not (hasChain w))
     ∷ case badAddress (eqb (messageType w) flex && leb 2 (addressOf w))
-    ∷ []
-
--- And those of its piece x where its chain is c and a part has n bytes: 15, 16, 18; 1 for a piece that does not finish
--- its message.
-abbrev pub casesOfPiece : Chain → ℕ → Piece → List Case
-casesOfPiece c n x =
-    case outOfTurn (cond (isOpen c) (begins x || not (eqb (c .shared) (x .shared))) (not (begins x)))
+    ∷ case outOfTurn (cond (isOpen c) (begins x || not (eqb (c .shared) (x .shared))) (not (begins x)))
     ∷ case tooManyPackets (isOpen c && leb most (c .packets))
     ∷ case tooLong (ltb n (cond (isOpen c) (c .length) 0 + x .count))
     ∷ case takenIn (not (finishes x))
@@ -54,8 +49,7 @@ casesOfPiece c n x =
 -- there are none where it is cut; and a place is told exactly with 7.
 pub record InOrder : Type 0 where
   pub answers : (cs : Chains) (b s : List ℕ)
-      → collectedOf cs b s .answer
-      ≡ numbered (casesBefore (packet s) ++ casesOfPiece (chainAt (chainOf s) cs) (share b) (pieceOf s))
+      → collectedOf cs b s .answer ≡ numbered (casesAt (chainAt (chainOf s) cs) (share b) (packet s))
   pub reads : (cs : Chains) (b s : List ℕ) → collectedOf cs b s .read ≡ length (packet s)
   pub places : (cs : Chains) (b s : List ℕ)
       → collectedOf cs b s .place ≡ placeTold (collectedOf cs b s .answer) (packet s)

@@ -3,7 +3,7 @@
 //
 // Each stands as a type in specs/ and is proved in proofs/. The functions below do nothing and ensure
 // them, so that a check names each.
-ghost use Rattle.gathering.specs.Claims.{Alone, Dropped, Finished, Made, NoTouch};
+ghost use Rattle.gathering.specs.Claims.{Alone, Counted, Dropped, Finished, Made, NoTouch};
 ghost use Rattle.gathering.specs.InOrder.{InOrder};
 
 // A packet changes no chain and no part but its own.
@@ -24,6 +24,11 @@ pub fn finished()
 // Wherever a chain finishes, its bytes are the payloads of its packets in order.
 pub fn made()
     ensures { λ _. ⌜ Made ⌝ }
+{}
+
+// Only a 33rd packet of Flex Data is one too many.
+pub fn counted()
+    ensures { λ _. ⌜ Counted ⌝ }
 {}
 
 // What a refusal leaves of the chain and of its part.
