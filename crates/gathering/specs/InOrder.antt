@@ -45,8 +45,8 @@ casesAt c n p =
     ∷ case takenIn (not (finishes x))
     ∷ []
 
--- Each number is answered exactly in its case, and 0 where none of them holds; the words read are the packet's, of which
--- there are none where it is cut; and a place is told exactly with 7.
+-- Each number is answered exactly in its case, and 0 where none of them holds; the words read are the packet's, of
+-- which there are none where it is cut; and a place is told exactly with 7.
 pub record InOrder : Type 0 where
   pub answers : (cs : Chains) (b s : List ℕ)
       → collectedOf cs b s .answer ≡ numbered (casesAt (chainAt (chainOf s) cs) (share b) (packet s))

@@ -1,3 +1,4 @@
+-- `chains::sort`: the screening, the chain and the address of one packet.
 use borrow.Author.Needs.{needs}
 use Rattle.chains.proofs.sort.Statement.{statement}
 use Rattle.chains.proofs.sort.Tie as tie

@@ -1,3 +1,4 @@
+-- `piece::exclusive_bytes`: byte for byte, two of the first word and four of the second.
 use borrow.Author.Needs.{needs}
 use Rattle.piece.proofs.exclusive_bytes.Statement.{statement}
 use Rattle.piece.proofs.exclusive_bytes.Tie as tie

@@ -1,3 +1,4 @@
+-- `piece::exclusive_piece`: each field is read by the function of its name, the count up to six.
 use Rattle.piece.specs.Piece.{exclusivePiece}
 use borrow.Author.Needs.{needs}
 use Rattle.piece.proofs.exclusive_piece.Statement.{statement}

@@ -1,3 +1,4 @@
+-- `piece::flex_bytes`: byte for byte, four of each word.
 use borrow.Author.Needs.{needs}
 use Rattle.piece.proofs.flex_bytes.Statement.{statement}
 use Rattle.piece.proofs.flex_bytes.Tie as tie

@@ -1,3 +1,4 @@
+-- `piece::piece_of`: the packet's words are read once, and 0 stands for one that it has not.
 use borrow.Author.Needs.{needs}
 use Rattle.piece.proofs.piece_of.Statement.{statement}
 use Rattle.piece.proofs.piece_of.Tie as tie
