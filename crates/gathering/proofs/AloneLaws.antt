@@ -1,4 +1,5 @@
--- A packet changes no chain and no part but its own; and what one chain collects depends on its own packets alone. Assumes nothing.
+-- A packet changes no chain and no part but its own; and what one chain collects depends on its own packets alone.
+-- Assumes nothing.
 use Prim.Native.Nat.{ℕ, _*_, _<_}
 use mathlib.Core.Path.{_≡_, refl, sym, ap, ap₂, _∙_}
 use mathlib.Core.Logic.{_⊎_, inl, inr}
@@ -22,7 +23,8 @@ use Rattle.gathering.specs.Claims.{heldAt, one, only, run, tells, told}
 
 -- the chains after a call, and its answer, by whether the packet is a piece
 module _ (cs : Chains) (b s : List ℕ) where
-  chains-piece : refusalOf s ≡ goesOn → collectedOf cs b s .chains ≡ record { all = set (cs .all) (chainOf s) (stepAt cs b (chainOf s) (pieceOf s) .chain) }
+  chains-piece : refusalOf s ≡ goesOn → collectedOf cs b s .chains
+      ≡ record { all = set (cs .all) (chainOf s) (stepAt cs b (chainOf s) (pieceOf s) .chain) }
   unfolding collected
   chains-piece e = rw (report-piece cs b s e)
 
@@ -34,7 +36,8 @@ module _ (cs : Chains) (b s : List ℕ) where
   unfolding keptOpen beside
   others n = go (same-or-not (refusalOf s) badAddress)
     where
-      go : (refusalOf s ≡ badAddress) ⊎ (refusalOf s ≡ badAddress → ⊥) → (collectedOf cs b s .chains ≡ cs) × (collectedOf cs b s .answer ≡ refusalOf s)
+      go : (refusalOf s ≡ badAddress) ⊎ (refusalOf s ≡ badAddress → ⊥) → (collectedOf cs b s .chains ≡ cs)
+          × (collectedOf cs b s .answer ≡ refusalOf s)
       go (inl e) = rw (report-kept cs b s e) (refl, sym e)
       go (inr m) = rw (report-beside cs b s n m) (refl, refl)
 
@@ -53,12 +56,15 @@ module _ (w : World) (p : List ℕ) (full : All32 w) where
           rw (
             chains-piece (w .chains) (w .buffer) p e,
             own-buffer w p e,
-            getD-set-other (w .chains .all) (chainOf p) k (stepAt (w .chains) (w .buffer) (chainOf p) (pieceOf p) .chain) fresh (λ q. ne (sym q)),
-            part-other (chainOf p) (own-part (w .chains) (w .buffer) p) (w .buffer) (piece-low p e) (own-length (w .chains) (w .buffer) p e) k low ne,
+            getD-set-other (w .chains .all) (chainOf p) k (stepAt (w .chains) (w .buffer) (chainOf p)
+                (pieceOf p) .chain) fresh (λ q. ne (sym q)),
+            part-other (chainOf p) (own-part (w .chains) (w .buffer) p) (w .buffer) (piece-low p e)
+                (own-length (w .chains) (w .buffer) p e) k low ne,
           )
       go (inr n) = rw (others (w .chains) (w .buffer) p n .0, buffer-same (w .chains) (w .buffer) p n)
 
-  own-piece : refusalOf p ≡ goesOn → (heldAt (chainOf p) (after w p) ≡ one (heldAt (chainOf p) w) p) × (answer w p ≡ told (heldAt (chainOf p) w) p)
+  own-piece : refusalOf p ≡ goesOn → (heldAt (chainOf p) (after w p) ≡ one (heldAt (chainOf p) w) p)
+      × (answer w p ≡ told (heldAt (chainOf p) w) p)
   unfolding one told own-part
   own-piece e =
       let j = chainOf p in
@@ -74,11 +80,13 @@ module _ (w : World) (p : List ℕ) (full : All32 w) where
         part-length j (w .buffer) low,
       ) (refl, refl)
 
-  pub own : (k : ℕ) → k < 32 → chainOf p ≡ k → (heldAt k (after w p) ≡ one (heldAt k w) p) × (answer w p ≡ told (heldAt k w) p)
+  pub own : (k : ℕ) → k < 32 → chainOf p ≡ k → (heldAt k (after w p) ≡ one (heldAt k w) p)
+      × (answer w p ≡ told (heldAt k w) p)
   unfolding one told
   own k low q = go (same-or-not (refusalOf p) goesOn)
     where
-      go : (refusalOf p ≡ goesOn) ⊎ (refusalOf p ≡ goesOn → ⊥) → (heldAt k (after w p) ≡ one (heldAt k w) p) × (answer w p ≡ told (heldAt k w) p)
+      go : (refusalOf p ≡ goesOn) ⊎ (refusalOf p ≡ goesOn → ⊥) → (heldAt k (after w p) ≡ one (heldAt k w) p)
+          × (answer w p ≡ told (heldAt k w) p)
       go (inl e) = rw (← q) (own-piece e)
       go (inr n) =
           let o = others (w .chains) (w .buffer) p n in
@@ -87,10 +95,13 @@ module _ (w : World) (p : List ℕ) (full : All32 w) where
   rest : drop (32 * share (w .buffer)) (after w p .buffer) ≡ drop (32 * share (w .buffer)) (w .buffer)
   rest = go (same-or-not (refusalOf p) goesOn)
     where
-      go : (refusalOf p ≡ goesOn) ⊎ (refusalOf p ≡ goesOn → ⊥) → drop (32 * share (w .buffer)) (after w p .buffer) ≡ drop (32 * share (w .buffer)) (w .buffer)
+      go : (refusalOf p ≡ goesOn) ⊎ (refusalOf p ≡ goesOn → ⊥)
+          → drop (32 * share (w .buffer)) (after w p .buffer) ≡ drop (32 * share (w .buffer)) (w .buffer)
       go (inl e) =
           rw (own-buffer w p e)
-          (drop-with (chainOf p) (own-part (w .chains) (w .buffer) p) (w .buffer) (piece-low p e) (own-length (w .chains) (w .buffer) p e) (32 * share (w .buffer)) (before (chainOf p) 32 (share (w .buffer)) (piece-low p e)))
+          (drop-with (chainOf p) (own-part (w .chains) (w .buffer) p) (w .buffer) (piece-low p e)
+          (own-length (w .chains) (w .buffer) p e) (32 * share (w .buffer))
+          (before (chainOf p) 32 (share (w .buffer)) (piece-low p e)))
       go (inr n) = rw (buffer-same (w .chains) (w .buffer) p n)
 
   same : All32 (after w p) × (length (after w p .buffer) ≡ length (w .buffer))
@@ -99,7 +110,8 @@ module _ (w : World) (p : List ℕ) (full : All32 w) where
       go : (refusalOf p ≡ goesOn) ⊎ (refusalOf p ≡ goesOn → ⊥) → All32 (after w p)
       go (inl e) =
           rw (chains-piece (w .chains) (w .buffer) p e)
-          (length-set (w .chains .all) (chainOf p) (stepAt (w .chains) (w .buffer) (chainOf p) (pieceOf p) .chain) ∙ full)
+          (length-set (w .chains .all) (chainOf p) (stepAt (w .chains) (w .buffer) (chainOf p) (pieceOf p) .chain)
+          ∙ full)
       go (inr n) = rw (others (w .chains) (w .buffer) p n .0) full
 
   pub apart : Apart w p
@@ -109,18 +121,23 @@ pub proved-no-touch : NoTouch
 proved-no-touch w p full = apart w p full
 
 -- one chain's state after a list of packets is that of its own packets
-pub gathered-alone : (k : ℕ) (ps : List (List ℕ)) (w : World) → k < 32 → All32 w → heldAt k (run w ps) ≡ gathered (heldAt k w) (only k ps)
+pub gathered-alone : (k : ℕ) (ps : List (List ℕ)) (w : World) → k < 32 → All32 w
+    → heldAt k (run w ps) ≡ gathered (heldAt k w) (only k ps)
 unfolding run gathered only
 gathered-alone k [] w low full = refl
 gathered-alone k (p ∷ ps) w low full =
     go (same-or-not (chainOf p) k) (gathered-alone k ps (after w p) low (apart w p full .same .0))
   where
-    go : (chainOf p ≡ k) ⊎ (chainOf p ≡ k → ⊥) → heldAt k (run (after w p) ps) ≡ gathered (heldAt k (after w p)) (only k ps)
+    go : (chainOf p ≡ k) ⊎ (chainOf p ≡ k → ⊥) → heldAt k (run (after w p) ps)
+        ≡ gathered (heldAt k (after w p)) (only k ps)
         → heldAt k (run (after w p) ps) ≡ gathered (heldAt k w) (only k (p ∷ ps))
-    go (inl e) ih = rw (eq-eqb (chainOf p) k e) (ih ∙ ap (λ (h : Held). gathered h (only k ps)) (apart w p full .own k low e .0))
-    go (inr n) ih = rw (ne-eqb (chainOf p) k n) (ih ∙ ap (λ (h : Held). gathered h (only k ps)) (apart w p full .other k low n))
+    go (inl e) ih = rw (eq-eqb (chainOf p) k e) (ih
+        ∙ ap (λ (h : Held). gathered h (only k ps)) (apart w p full .own k low e .0))
+    go (inr n) ih = rw (ne-eqb (chainOf p) k n) (ih
+        ∙ ap (λ (h : Held). gathered h (only k ps)) (apart w p full .other k low n))
 
-answers-alone : (k : ℕ) (ps : List (List ℕ)) (w : World) → k < 32 → All32 w → answers k w ps ≡ tells (heldAt k w) (only k ps)
+answers-alone : (k : ℕ) (ps : List (List ℕ)) (w : World) → k < 32 → All32 w
+    → answers k w ps ≡ tells (heldAt k w) (only k ps)
 unfolding answers tells only
 answers-alone k [] w low full = refl
 answers-alone k (p ∷ ps) w low full =
@@ -131,18 +148,23 @@ answers-alone k (p ∷ ps) w low full =
     go (inl e) ih =
         let o = apart w p full .own k low e in
         rw (eq-eqb (chainOf p) k e) (ap₂ _∷_ (o .1) (ih ∙ ap (λ (h : Held). tells h (only k ps)) (o .0)))
-    go (inr n) ih = rw (ne-eqb (chainOf p) k n) (ih ∙ ap (λ (h : Held). tells h (only k ps)) (apart w p full .other k low n))
+    go (inr n) ih = rw (ne-eqb (chainOf p) k n) (ih
+        ∙ ap (λ (h : Held). tells h (only k ps)) (apart w p full .other k low n))
 
 only-only : (k : ℕ) (ps : List (List ℕ)) → only k (only k ps) ≡ only k ps
 unfolding only
 only-only k [] = refl
 only-only k (p ∷ ps) = go (same-or-not (chainOf p) k) (only-only k ps)
   where
-    go : (chainOf p ≡ k) ⊎ (chainOf p ≡ k → ⊥) → only k (only k ps) ≡ only k ps → only k (only k (p ∷ ps)) ≡ only k (p ∷ ps)
+    go : (chainOf p ≡ k) ⊎ (chainOf p ≡ k → ⊥) → only k (only k ps) ≡ only k ps
+        → only k (only k (p ∷ ps)) ≡ only k (p ∷ ps)
     go (inl e) ih = rw (eq-eqb (chainOf p) k e, eq-eqb (chainOf p) k e) (ap (λ (l : List (List ℕ)). p ∷ l) ih)
     go (inr n) ih = rw (ne-eqb (chainOf p) k n) ih
 
 pub proved-alone : Alone
 proved-alone k w ps low full =
-    let g = gathered-alone k ps w low full in
-    (g ∙ sym (gathered-alone k (only k ps) w low full ∙ ap (gathered (heldAt k w)) (only-only k ps)), g, answers-alone k ps w low full)
+    let g = gathered-alone k ps w low full in (
+      g ∙ sym (gathered-alone k (only k ps) w low full ∙ ap (gathered (heldAt k w)) (only-only k ps)),
+      g,
+      answers-alone k ps w low full,
+    )

@@ -1,22 +1,22 @@
 -- The number of an open chain's packets, kept by each packet, so that only a 33rd of Flex Data is one too many. Assumes
 -- nothing.
 use Prim.Native.Nat.{ℕ, _+_, _≤_, _<_}
-use mathlib.Core.Path.{_≡_, refl, sym, ap, subst, _∙_}
+use mathlib.Core.Path.{_≡_, refl, sym, subst, _∙_}
 use mathlib.Core.Bool.{Bool, true, false, cond}
 use mathlib.Core.Logic.{_⊎_, inl, inr}
 use mathlib.Core.List.{List, [], _∷_, _++_}
 use native.Mathlib.Omega.{arith}
 use lib.ListN.{length, length-append}
 use lib.Dec.{eqb, leb, ltb}
-use borrow.Author.Tests.{eq-eqb, eqb-false, eqb-true, leb-true, ltb-false, ne-eqb}
-use Rattle.ground.proofs.Cases.{by-bool, not-both}
+use borrow.Author.Tests.{eq-eqb, eqb-false, leb-true, ltb-false, ne-eqb}
+use Rattle.ground.proofs.Cases.{not-both}
 use Rattle.ump.specs.Packet.{packet}
 use Rattle.stream.specs.Answers.{outOfTurn, sent, takenIn, tooLong, tooManyPackets}
 use Rattle.screen.specs.Screen.{goesOn}
 use Rattle.chains.specs.declared.Chain.{Chain}
 use Rattle.piece.specs.declared.Piece.{Piece}
 use Rattle.chains.specs.Step.{baseOf, begins, finishes, grown, most, strays, verdict, verdictBy}
-use Rattle.chains.specs.Collect.{chainAt, chainOf, pieceOf, refusalOf, sorted}
+use Rattle.chains.specs.Collect.{chainAt, chainOf, pieceOf, refusalOf}
 use Rattle.chains.proofs.SortLaws.{same-or-not}
 use Rattle.chains.proofs.StepLaws.{taken}
 use Rattle.gathering.specs.Claims.{All32, Counted, Held, World, answer, gathered, heldAt, next, one, only, run}
@@ -130,7 +130,10 @@ many c n x = go (strays c x) (leb most (c .packets)) refl (ltb n (baseOf c + x .
 not-before : (p : List ℕ) → refusalOf p ≡ tooManyPackets → ⊥
 not-before p =
     sorted-cases (λ (a : ℕ). a ≡ tooManyPackets → ⊥) (packet p) (λ e. omega (arith, e)) (λ e. omega (arith, e))
-    (λ e. omega (arith, e)) (λ e. omega (arith, e)) (λ e. omega (arith, e)) (λ e. omega (arith, e)) (λ e. omega (arith, e))
+    (λ e. omega (arith, e)) (λ e. omega (arith, e)) (λ e. omega (arith, e)) (λ e. omega (
+      arith,
+      e,
+    )) (λ e. omega (arith, e))
 
 told-many : (h : Held) (p : List ℕ) → told h p ≡ tooManyPackets → most ≤ h .chain .packets
 told-many h p e = go (same-or-not (refusalOf p) goesOn)

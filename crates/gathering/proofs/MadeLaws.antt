@@ -9,7 +9,7 @@ use lib.ListN.{length, take, length-append}
 use lib.Seq.{paste, take-paste}
 use lib.Dec.{eqb, leb}
 use borrow.Author.Tests.{eqb-false, eqb-true, leb-false, leb-true, ne-eqb}
-use Rattle.ground.proofs.Cases.{choose, not-both}
+use Rattle.ground.proofs.Cases.{not-both}
 use Rattle.stream.specs.Answers.{outOfTurn}
 use Rattle.screen.specs.Screen.{goesOn}
 use Rattle.piece.specs.declared.Piece.{Piece}
@@ -31,7 +31,8 @@ payloads-one p = append-nil (payload (pieceOf p))
 payloads-append : (qs : List (List ℕ)) (p : List ℕ) → payloads (qs ++ p ∷ []) ≡ payloads qs ++ payload (pieceOf p)
 unfolding payloads
 payloads-append [] p = append-nil (payload (pieceOf p))
-payloads-append (q ∷ qs) p = ap (λ (l : List ℕ). payload (pieceOf q) ++ l) (payloads-append qs p) ∙ sym (append-assoc (payload (pieceOf q)) (payloads qs) (payload (pieceOf p)))
+payloads-append (q ∷ qs) p = ap (λ (l : List ℕ). payload (pieceOf q) ++ l) (payloads-append qs p)
+    ∙ sym (append-assoc (payload (pieceOf q)) (payloads qs) (payload (pieceOf p)))
 
 -- a refused piece leaves no chain open
 dropped-closed : (c : Chain) (a : ℕ) → refusedBy a c .packets ≡ 0
@@ -67,26 +68,34 @@ module _ (c : Chain) (x : Piece) where
 
   -- bytes held, with those of a piece after them
   more : (P bs : List ℕ) → Fine x → baseOf c ≡ length bs → take (length bs) P ≡ bs → baseOf c + x .count ≤ length P
-      → (grown c x .length ≡ length (bs ++ payload x)) × (take (grown c x .length) (paste P (baseOf c) (x .bytes) (x .count)) ≡ bs ++ payload x)
+      → (grown c x .length ≡ length (bs ++ payload x))
+      × (take (grown c x .length) (paste P (baseOf c) (x .bytes) (x .count)) ≡ bs ++ payload x)
   unfolding grown
   more P bs f b t r =
       let l = length-append bs (payload x) in
       let n = payload-length x f in (
         omega arith,
-        take-paste P (baseOf c) (x .bytes) (x .count) (omega arith) (omega (arith, f .few, f .places)) ∙ ap (λ (m : ℕ). take m P ++ payload x) b ∙ ap (λ (l : List ℕ). l ++ payload x) t,
+        take-paste P (baseOf c) (x .bytes) (x .count) (omega arith) (omega (arith, f .few, f .places))
+            ∙ ap (λ (m : ℕ). take m P ++ payload x) b ∙ ap (λ (l : List ℕ). l ++ payload x) t,
       )
 
 -- a packet that is taken: the chain holds the payloads with its own
-holds : (h : Held) (qs : List (List ℕ)) (p : List ℕ) → Sound h qs → refusalOf p ≡ goesOn → verdict (h .chain) (length (h .part)) (pieceOf p) ≤ 1 → Holds (one h p) (next qs p)
+holds : (h : Held) (qs : List (List ℕ)) (p : List ℕ) → Sound h qs → refusalOf p ≡ goesOn
+    → verdict (h .chain) (length (h .part)) (pieceOf p) ≤ 1 → Holds (one h p) (next qs p)
 unfolding next
 holds h qs p s e v =
     let x = pieceOf p in
     let t = taken _ _ _ _ _ _ v in
-    rw (one-is h p (verdict (h .chain) (length (h .part)) x) e refl v .0, e) (go (eqb (h .chain .packets) 0) refl (leb (x .format) 1) refl s (t .0) (t .2))
+    rw (
+      one-is h p (verdict (h .chain) (length (h .part)) x) e refl v .0,
+      e,
+    ) (go (eqb (h .chain .packets) 0) refl (leb (x .format) 1) refl s (t .0) (t .2))
   where
-    go : (c : Bool) → eqb (h .chain .packets) 0 ≡ c → (b : Bool) → leb (pieceOf p .format) 1 ≡ b → Sound h qs → strays (h .chain) (pieceOf p) ≡ false → baseOf (h .chain) + pieceOf p .count ≤ length (h .part)
+    go : (c : Bool) → eqb (h .chain .packets) 0 ≡ c → (b : Bool) → leb (pieceOf p .format) 1 ≡ b → Sound h qs
+        → strays (h .chain) (pieceOf p) ≡ false → baseOf (h .chain) + pieceOf p .count ≤ length (h .part)
         → (grown (h .chain) (pieceOf p) .length ≡ length (payloads (cond b (p ∷ []) (qs ++ p ∷ []))))
-        × (take (grown (h .chain) (pieceOf p) .length) (paste (h .part) (baseOf (h .chain)) (pieceOf p .bytes) (pieceOf p .count)) ≡ payloads (cond b (p ∷ []) (qs ++ p ∷ [])))
+        × (take (grown (h .chain) (pieceOf p) .length) (paste (h .part) (baseOf (h .chain)) (pieceOf p .bytes)
+        (pieceOf p .count)) ≡ payloads (cond b (p ∷ []) (qs ++ p ∷ [])))
     go true f true g s o r =
         let b = base-closed (h .chain) (pieceOf p) f in
         rw (payloads-one p) (more (h .chain) (pieceOf p) (h .part) [] (fine p) b refl r)
@@ -95,11 +104,13 @@ holds h qs p s e v =
     go false f false g (inl z) o r = absurd (eqb-false (h .chain .packets) 0 f z)
     go false f false g (inr k) o r =
         let b = base-open (h .chain) (pieceOf p) f ∙ k .0 in
-        rw (payloads-append qs p) (more (h .chain) (pieceOf p) (h .part) (payloads qs) (fine p) b (rw (k .0) at (k .1)) r)
+        rw (payloads-append qs p) (more (h .chain) (pieceOf p) (h .part) (payloads qs)
+        (fine p) b (rw (k .0) at (k .1)) r)
 
 -- a piece that is refused, and a packet that is no piece
 module _ (h : Held) (p : List ℕ) where
-  pub shut : refusalOf p ≡ goesOn → leb (verdict (h .chain) (length (h .part)) (pieceOf p)) 1 ≡ false → one h p .chain .packets ≡ 0
+  pub shut : refusalOf p ≡ goesOn → leb (verdict (h .chain) (length (h .part)) (pieceOf p)) 1 ≡ false
+      → one h p .chain .packets ≡ 0
   unfolding one stepOf
   shut e f = rw (e, f) (dropped-closed (h .chain) (verdict (h .chain) (length (h .part)) (pieceOf p)))
 
@@ -123,7 +134,8 @@ idle-next qs p n = rw (ne-eqb (refusalOf p) goesOn n)
 sound : (h : Held) (qs : List (List ℕ)) (p : List ℕ) → Sound h qs → Sound (one h p) (next qs p)
 sound h qs p s = go (same-or-not (refusalOf p) goesOn) (leb (verdict (h .chain) (length (h .part)) (pieceOf p)) 1) refl
   where
-    go : (refusalOf p ≡ goesOn) ⊎ (refusalOf p ≡ goesOn → ⊥) → (t : Bool) → leb (verdict (h .chain) (length (h .part)) (pieceOf p)) 1 ≡ t → Sound (one h p) (next qs p)
+    go : (refusalOf p ≡ goesOn) ⊎ (refusalOf p ≡ goesOn → ⊥) → (t : Bool)
+        → leb (verdict (h .chain) (length (h .part)) (pieceOf p)) 1 ≡ t → Sound (one h p) (next qs p)
     go (inl e) true f = inr (holds h qs p s e (leb-true (verdict (h .chain) (length (h .part)) (pieceOf p)) 1 f))
     go (inl e) false f = inl (shut h p e f)
     go (inr n) t f = rw (idle h p n, idle-next qs p n) s
@@ -144,12 +156,19 @@ run-full [] w f = f
 run-full (p ∷ ps) w f = run-full ps (after w p) (apart w p f .same .0)
 
 -- an answer 0 is of a piece that was taken
-told-zero : (h : Held) (p : List ℕ) → told h p ≡ 0 → (refusalOf p ≡ goesOn) × (verdict (h .chain) (length (h .part)) (pieceOf p) ≤ 1)
+told-zero : (h : Held) (p : List ℕ) → told h p ≡ 0 → (refusalOf p ≡ goesOn)
+    × (verdict (h .chain) (length (h .part)) (pieceOf p) ≤ 1)
 told-zero h p e = go (same-or-not (refusalOf p) goesOn) (leb (verdict (h .chain) (length (h .part)) (pieceOf p)) 1) refl
   where
-    go : (refusalOf p ≡ goesOn) ⊎ (refusalOf p ≡ goesOn → ⊥) → (t : Bool) → leb (verdict (h .chain) (length (h .part)) (pieceOf p)) 1 ≡ t → (refusalOf p ≡ goesOn) × (verdict (h .chain) (length (h .part)) (pieceOf p) ≤ 1)
+    go : (refusalOf p ≡ goesOn) ⊎ (refusalOf p ≡ goesOn → ⊥) → (t : Bool)
+        → leb (verdict (h .chain) (length (h .part)) (pieceOf p)) 1 ≡ t → (refusalOf p ≡ goesOn)
+        × (verdict (h .chain) (length (h .part)) (pieceOf p) ≤ 1)
     go (inl r) true f = (r, leb-true (verdict (h .chain) (length (h .part)) (pieceOf p)) 1 f)
-    go (inl r) false f = absurd (omega (arith, leb-false (verdict (h .chain) (length (h .part)) (pieceOf p)) 1 f, sym (told-is h p r) ∙ e))
+    go (inl r) false f = absurd (omega (
+      arith,
+      leb-false (verdict (h .chain) (length (h .part)) (pieceOf p)) 1 f,
+      sym (told-is h p r) ∙ e,
+    ))
     go (inr n) t f = absurd (n (sym (told-idle h p n) ∙ e))
 
 pub proved-made : Made
@@ -159,4 +178,5 @@ proved-made k w ps z low full c q e =
     let h = gathered (heldAt k w) (only k ps) in
     let y = told-zero h z (ap (λ (x : Held). told x z) (sym g) ∙ sym (o .1) ∙ e) in
     subst (λ (x : Held). Holds x (since [] (only k ps ++ z ∷ []))) (sym (o .0 ∙ ap (λ (x : Held). one x z) g))
-    (rw (since-last (only k ps) [] z) (holds h (since [] (only k ps)) z (sounds (only k ps) (heldAt k w) [] (inl c)) (y .0) (y .1)))
+    (rw (since-last (only k ps) [] z) (holds h (since [] (only k ps)) z (sounds (only k ps) (heldAt k w) [] (inl c))
+    (y .0) (y .1)))

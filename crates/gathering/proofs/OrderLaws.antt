@@ -1,14 +1,14 @@
 -- Each answer exactly in its case: what comes before the chain is asked is one row of tests, and what the chain says
 -- another. Assumes nothing.
 use Prim.Native.Nat.{ℕ, _+_}
-use mathlib.Core.Path.{_≡_, refl, sym, ap, _∙_}
+use mathlib.Core.Path.{_≡_, refl, sym, _∙_}
 use mathlib.Core.Bool.{Bool, true, false, cond, not, _&&_, _||_}
 use mathlib.Core.Logic.{_⊎_, inl, inr}
 use mathlib.Core.List.{List, [], _∷_, _++_}
 use native.Mathlib.Omega.{arith}
 use lib.ListN.{length}
 use lib.Dec.{eqb, leb, ltb}
-use borrow.Author.Tests.{eq-eqb, eqb-true, ne-eqb}
+use borrow.Author.Tests.{eqb-true, ne-eqb}
 use Rattle.ground.proofs.Cases.{by-bool}
 use Rattle.ump.specs.Word.{groupOf, messageType}
 use Rattle.ump.specs.Packet.{first, packet, second}
@@ -23,7 +23,8 @@ use Rattle.piece.specs.Piece.{chainBy, chainFor, exclusive, flex, noChain, stra
 use Rattle.chains.specs.declared.Chain.{Chain}
 use Rattle.chains.specs.declared.Chains.{Chains}
 use Rattle.chains.specs.Step.{baseOf, begins, finishes, most, strays, verdict, verdictBy}
-use Rattle.chains.specs.Collect.{beside, chainAt, chainOf, collected, collectedOf, keptOpen, ofChain, pieceOf, refusalOf}
+use Rattle.chains.specs.Collect.{beside, chainAt, chainOf, collected, collectedOf, keptOpen, ofChain, pieceOf}
+use Rattle.chains.specs.Collect.{refusalOf}
 use Rattle.chains.specs.Collect.{share, sortBy, sorted}
 use Rattle.chains.proofs.SortLaws.{same-or-not}
 use Rattle.chains.proofs.StepLaws.{step-answer}
@@ -163,12 +164,14 @@ no-data c n x = go (strays c x) (leb most (c .packets)) (ltb n (baseOf c + x .co
 module _ (cs : Chains) (b s : List ℕ) where
   answers : collectedOf cs b s .answer ≡ numbered (casesAt (chainAt (chainOf s) cs) (share b) (packet s))
   unfolding collected keptOpen beside
-  answers = go (same-or-not (refusalOf s) goesOn) (same-or-not (refusalOf s) badAddress) ∙ sym (before-then (packet s) rest)
+  answers = go (same-or-not (refusalOf s) goesOn) (same-or-not (refusalOf s) badAddress)
+      ∙ sym (before-then (packet s) rest)
     where
       rest : List Case
       rest = casesOfPiece (chainAt (chainOf s) cs) (share b) (pieceOf s)
 
-      go : (refusalOf s ≡ goesOn) ⊎ (refusalOf s ≡ goesOn → ⊥) → (refusalOf s ≡ badAddress) ⊎ (refusalOf s ≡ badAddress → ⊥)
+      go : (refusalOf s ≡ goesOn) ⊎ (refusalOf s ≡ goesOn → ⊥)
+          → (refusalOf s ≡ badAddress) ⊎ (refusalOf s ≡ badAddress → ⊥)
           → collectedOf cs b s .answer ≡ cond (eqb (refusalOf s) goesOn) (numbered rest) (refusalOf s)
       go (inl e) f =
           rw (report-piece cs b s e, e)
@@ -181,7 +184,8 @@ module _ (cs : Chains) (b s : List ℕ) where
   unfolding collected keptOpen beside
   places = go (same-or-not (refusalOf s) goesOn) (same-or-not (refusalOf s) badAddress)
     where
-      go : (refusalOf s ≡ goesOn) ⊎ (refusalOf s ≡ goesOn → ⊥) → (refusalOf s ≡ badAddress) ⊎ (refusalOf s ≡ badAddress → ⊥)
+      go : (refusalOf s ≡ goesOn) ⊎ (refusalOf s ≡ goesOn → ⊥)
+          → (refusalOf s ≡ badAddress) ⊎ (refusalOf s ≡ badAddress → ⊥)
           → collectedOf cs b s .place ≡ placeTold (collectedOf cs b s .answer) (packet s)
       go (inl e) f =
           let c = chainAt (chainOf s) cs in

@@ -12,4 +12,10 @@ sort-spec =
     (λ c κs. search needs)
     (λ c κs. search needs)
     (λ c κs. search needs)
-    (λ c. simp (c .sort-by .ensures, c .before .has-strange-address .ensures, c .before .before .chain-of .ensures, c .before .before .before .screen .ensures, c .before .before .before .before .word-at .ensures)))
+    (λ c. simp (
+      c .sort-by .ensures,
+      c .before .has-strange-address .ensures,
+      c .before .before .chain-of .ensures,
+      c .before .before .before .screen .ensures,
+      c .before .before .before .before .word-at .ensures,
+    )))

@@ -13,4 +13,11 @@ exclusive-bytes-spec =
     (λ c κs. search needs)
     (λ c κs. search needs)
     (λ c κs. search needs)
-    (λ c. simp (c .byte42 .ensures, c .before .byte32 .ensures, c .before .before .byte2 .ensures, c .before .before .before .byte1 .ensures, c .before .before .before .before .byte4 .ensures, c .before .before .before .before .before .byte3 .ensures)))
+    (λ c. simp (
+      c .byte42 .ensures,
+      c .before .byte32 .ensures,
+      c .before .before .byte2 .ensures,
+      c .before .before .before .byte1 .ensures,
+      c .before .before .before .before .byte4 .ensures,
+      c .before .before .before .before .before .byte3 .ensures,
+    )))

@@ -14,4 +14,9 @@ exclusive-piece-spec =
     (λ c. search needs)
     (λ c κs. search needs)
     (λ c κs. search needs)
-    (λ c. simp (c .exclusive-bytes .ensures, c .before .least .ensures, c .before .before .count .ensures, c .before .before .before .status .ensures)))
+    (λ c. simp (
+      c .exclusive-bytes .ensures,
+      c .before .least .ensures,
+      c .before .before .count .ensures,
+      c .before .before .before .status .ensures,
+    )))

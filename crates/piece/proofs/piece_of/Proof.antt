@@ -13,4 +13,11 @@ piece-of-spec =
     (λ c κs. search needs)
     (λ c κs. search needs)
     (λ c κs. search needs)
-    (λ c. simp (c .piece-for .ensures, c .before .word-at4 .ensures, c .before .before .word-at3 .ensures, c .before .before .before .word-at2 .ensures, c .before .before .before .before .message-type .ensures, c .before .before .before .before .before .word-at .ensures)))
+    (λ c. simp (
+      c .piece-for .ensures,
+      c .before .word-at4 .ensures,
+      c .before .before .word-at3 .ensures,
+      c .before .before .before .word-at2 .ensures,
+      c .before .before .before .before .message-type .ensures,
+      c .before .before .before .before .before .word-at .ensures,
+    )))
