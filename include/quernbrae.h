@@ -32,6 +32,10 @@ enum {
     QUERNBRAE_NO_TABLE = 10,      /* the table has more or fewer than 256 records */
     QUERNBRAE_NOT_YOURS = 13,     /* of a host: the group is not its own (2.6) */
     QUERNBRAE_NO_COUNTERPART = 14, /* of a maker identity: it has no such form in the other kind (12) */
+    QUERNBRAE_OUT_OF_TURN = 15,      /* of a chain: the packet does not go on where it stands; an open one is dropped */
+    QUERNBRAE_TOO_MANY_PACKETS = 16, /* of a chain: the 33rd packet of Flex Data; it is dropped (13.3) */
+    QUERNBRAE_BAD_ADDRESS = 17,      /* Flex Data for address 2 or 3; the chain stays (13.3) */
+    QUERNBRAE_TOO_LONG = 18,         /* of a chain: the packet does not fit in its part; it is dropped (13.3) */
     QUERNBRAE_NOT_FOR_ROOM = 23,  /* in the beginners' room: good, but not on its list (2.5) */
     QUERNBRAE_OUT_OF_RANGE = 24   /* no such group, channel or host: of a question, mark, giving or replay (5, 11) */
 };
@@ -88,6 +92,32 @@ typedef struct {
     uint32_t count;   /* 1 or 3, or 0 where there is none */
     uint8_t bytes[4]; /* the first count of them, and zeros behind these */
 } quernbrae_maker;
+
+/* The number of chains: exclusives of groups 0 to 15, then Flex Data of groups 0 to 15 (13.1). It also stands for the
+ * chain of a packet that belongs to none. */
+enum { QUERNBRAE_CHAINS = 32, QUERNBRAE_NO_CHAIN = 32 };
+
+/* What is known of a chain beside its bytes (13.1). */
+typedef struct {
+    size_t length;    /* bytes in its part */
+    uint32_t shared;  /* Flex Data: address, channel, bank and status, the lowest 22 bits of its packets' first words */
+    uint32_t packets; /* 0 while none is open; an open exclusive has 1 */
+} quernbrae_chain;
+
+typedef struct {
+    quernbrae_chain all[QUERNBRAE_CHAINS];
+} quernbrae_chains;
+
+/* What the collector reports of a packet (13.3). */
+typedef struct {
+    uint32_t answer; /* 0, 1, 3, 4, 6, 7, 15, 16, 17 or 18 */
+    uint32_t place;  /* after answer 7 that of the first bad field, from 1 (2.4); else 0 */
+    size_t read;     /* words read */
+    size_t chain;    /* the packet's chain, or QUERNBRAE_NO_CHAIN */
+    size_t start;    /* where the part of that chain begins in the buffer */
+    size_t length;   /* the bytes that the chain has after the packet: after answer 0 the whole message */
+    quernbrae_chains chains; /* hand these on to the next call */
+} quernbrae_collected;
 
 /* The empty record: no key down, kind none, all five numbers missing, no mark. Fill a table with it before the first
  * packet (docs/RULES.md, 5.1). */
@@ -192,6 +222,15 @@ uint32_t quernbrae_host_mark_coarse(uint8_t host, const uint8_t *owners, size_t 
 uint32_t quernbrae_give_group(uint8_t *owners, size_t owners_len,
                               quernbrae_record *table, size_t table_len,
                               uint8_t group, uint8_t host);
+
+/* The chains before the first packet: none is open. */
+quernbrae_chains quernbrae_chains_closed(void);
+
+/* Collects whole messages (docs/RULES.md, 13): the packet at the start of the words goes into its chain, whose bytes
+ * stand in its own part of the buffer, one of 32 of equal length. Answer 0 says that a message is whole: its bytes are
+ * the length ones from start on, until the next packet of that chain. */
+quernbrae_collected quernbrae_collect(quernbrae_chains chains, uint8_t *buffer, size_t buffer_len,
+                                      const uint32_t *words, size_t words_len);
 
 /* The form of 16 bits of a maker identity, from its old form (docs/RULES.md, 12): one byte of 1 to 127, or 0 and two
  * bytes of at most 127. Any other bytes are answered 14. */

@@ -11,7 +11,8 @@ use Rattle.chains.specs.declared.Chains.{Chains}
 use Rattle.ump.specs.Packet.{packet}
 use Rattle.stream.specs.Answers.{badAddress}
 use Rattle.screen.specs.Screen.{goesOn}
-use Rattle.chains.specs.Collect.{beside, bufferAfter, bufferWith, chainOf, collected, collectedOf, keptOpen, partAt, pieceOf, refusalOf, share, sorted, withPart}
+use Rattle.chains.specs.Collect.{beside, bufferAfter, bufferWith, chainOf, collected, collectedOf, keptOpen}
+use Rattle.chains.specs.Collect.{partAt, pieceOf, refusalOf, share, sorted, withPart}
 
 -- part k ends within the buffer
 pub part-end : (k n : ℕ) → k < 32 → k * (n / 32) + n / 32 ≤ n
@@ -26,17 +27,20 @@ start-fits k n m h e =
 
 -- a part lent from a start to an end, by those two: it is the part, and what comes back stands in its place
 pub mid-part : (k : ℕ) (b : List ℕ) → midOf (k * share b) (k * share b + share b - k * share b) b ≡ partAt k b
-mid-part k b = ap (λ (n : ℕ). take n (drop (k * share b) b)) {x = k * share b + share b - k * share b} {y = share b} (omega arith)
+mid-part k b =
+    ap (λ (n : ℕ). take n (drop (k * share b) b)) {x = k * share b + share b - k * share b} {y = share b} (omega arith)
 
 pub put-part : (k : ℕ) (b p : List ℕ) → putMid (k * share b) (k * share b + share b - k * share b) b p ≡ withPart k p b
-put-part k b p = ap (λ (z : List ℕ). take (k * share b) b ++ (p ++ z)) (post-is (k * share b) (k * share b + share b) b (omega arith))
+put-part k b p = ap (λ (z : List ℕ). take (k * share b) b ++ (p ++ z)) (post-is (k * share b)
+    (k * share b + share b) b (omega arith))
 
 pub part-length : (k : ℕ) (b : List ℕ) → k < 32 → length (partAt k b) ≡ share b
 part-length k b h =
     length-take (share b) (drop (k * share b) b) ∙ omega (arith, length-drop (k * share b) b, part-end k (length b) h)
 
 module _ (cs : Chains) (b s : List ℕ) where
-  pub report-piece : refusalOf s ≡ goesOn → collectedOf cs b s ≡ collected cs b (chainOf s) (length (packet s)) (pieceOf s)
+  pub report-piece : refusalOf s ≡ goesOn → collectedOf cs b s
+      ≡ collected cs b (chainOf s) (length (packet s)) (pieceOf s)
   unfolding collectedOf
   report-piece e = rw e
 
@@ -44,7 +48,8 @@ module _ (cs : Chains) (b s : List ℕ) where
   unfolding bufferAfter
   buffer-piece e = rw e
 
-  pub report-kept : refusalOf s ≡ badAddress → collectedOf cs b s ≡ keptOpen cs (share b) (chainOf s) (length (packet s))
+  pub report-kept : refusalOf s ≡ badAddress → collectedOf cs b s
+      ≡ keptOpen cs (share b) (chainOf s) (length (packet s))
   unfolding collectedOf
   report-kept e = rw e
 

@@ -1,4 +1,5 @@
--- A buffer with another part: it is as long, that part is the new one, and the others and the rest are as they were. Assumes nothing.
+-- A buffer with another part: it is as long, that part is the new one, and the others and the rest are as they were.
+-- Assumes nothing.
 use Prim.Native.Nat.{ℕ, _+_, _*_, _/_, _-_, _≤_, _<_}
 use mathlib.Core.Path.{_≡_, refl, sym, ap, _∙_}
 use mathlib.Core.List.{List, _++_, append-assoc}
@@ -71,11 +72,19 @@ module _ (j : ℕ) (q b : List ℕ) (low : j < 32) (size : length q ≡ share b)
   pub part-other : (k : ℕ) → k < 32 → (j ≡ k → ⊥) → partAt k (withPart j q b) ≡ partAt k b
   part-other k h ne = rw share-with (go (side j k ne))
     where
-      go : (j < k) ⊎ (k < j) → take (share b) (drop (k * share b) (withPart j q b)) ≡ take (share b) (drop (k * share b) b)
+      go : (j < k) ⊎ (k < j) → take (share b) (drop (k * share b) (withPart j q b))
+          ≡ take (share b) (drop (k * share b) b)
       go (inl l) = ap (λ (x : List ℕ). take (share b) x) (drop-with (k * share b) (before j k (share b) l))
       go (inr l) =
           let a = take (j * share b) b in
-          let n : k * share b + share b ≤ length a = omega (arith, length-take-le (j * share b) b (omega (arith, part-end j (length b) low)), before k j (share b) l) in
+          let n : k * share b + share b ≤ length a = omega (
+            arith,
+            length-take-le (j * share b) b (omega (
+              arith,
+              part-end j (length b) low,
+            )),
+            before k j (share b) l,
+          ) in
           within (k * share b) (share b) a (q ++ drop (j * share b + share b) b) n
           ∙ sym (within (k * share b) (share b) a (drop (j * share b) b) n)
           ∙ ap (λ (x : List ℕ). take (share b) (drop (k * share b) x)) (take-append-drop (j * share b) b)

@@ -41,8 +41,10 @@ unfolding sortBy ofChain
 chain-low p = go (eqb (screen neitherType p .answer) goesOn) refl (eqb (chainBy (first p)) noChain) refl
   where
     go : (a : Bool) → eqb (screen neitherType p .answer) goesOn ≡ a → (b : Bool) → eqb (chainBy (first p)) noChain ≡ b
-        → (cond a (answering (cond b takenIn (cond (strangeAddress (first p)) badAddress goesOn))) (screen neitherType p) .answer ≡ goesOn)
-        ⊎ (cond a (answering (cond b takenIn (cond (strangeAddress (first p)) badAddress goesOn))) (screen neitherType p) .answer ≡ badAddress)
+        → (cond a (answering (cond b takenIn (cond (strangeAddress (first p)) badAddress goesOn)))
+        (screen neitherType p) .answer ≡ goesOn)
+        ⊎ (cond a (answering (cond b takenIn (cond (strangeAddress (first p)) badAddress goesOn)))
+        (screen neitherType p) .answer ≡ badAddress)
         → chainBy (first p) < 32
     go true e true f h = absurd (⊎-elim (λ x. omega (arith, x)) (λ x. omega (arith, x)) h)
     go true e false f h = omega (arith, chain-most (first p), eqb-false (chainBy (first p)) noChain f)

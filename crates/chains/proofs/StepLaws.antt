@@ -10,6 +10,7 @@ use lib.Dec.{leb, ltb}
 use borrow.Author.Tests.{le-leb, leb-false, leb-true, lt-leb, ltb-false}
 use Rattle.chains.specs.declared.Chain.{Chain}
 use Rattle.ground.proofs.Cases.{choose}
+use Rattle.stream.specs.Answers.{outOfTurn, sent, takenIn, tooLong, tooManyPackets}
 use Rattle.piece.specs.declared.Piece.{Piece}
 use Rattle.piece.specs.Piece.{Fine}
 use Rattle.chains.specs.declared.Stepped.{Stepped}
@@ -21,7 +22,8 @@ pub taken : (out : Bool) (packets base n count : ℕ) (last : Bool) → verdictB
 unfolding verdictBy
 taken out packets base n count last h = go out (leb 32 packets) refl (ltb n (base + count)) refl h
   where
-    go : (o m : Bool) → leb 32 packets ≡ m → (f : Bool) → ltb n (base + count) ≡ f → cond o 15 (cond m 16 (cond f 18 (cond last 0 1))) ≤ 1
+    go : (o m : Bool) → leb 32 packets ≡ m → (f : Bool) → ltb n (base + count) ≡ f
+        → cond o outOfTurn (cond m tooManyPackets (cond f tooLong (cond last sent takenIn))) ≤ 1
         → (o ≡ false) × (packets < 32) × (base + count ≤ n)
     go true m e f g h = absurd (omega arith)
     go false true e f g h = absurd (omega arith)
@@ -30,15 +32,18 @@ taken out packets base n count last h = go out (leb 32 packets) refl (ltb n (bas
 
 module _ (c : Chain) (x : Piece) (a : ℕ) where
   -- what the step hands back, by its answer
-  pub step-taken : (n : ℕ) (g : Chain) → a ≡ verdict c n x → a ≤ 1 → g ≡ grown c x → _≡_ {A = Stepped} (record { answer = a; chain = g }) (stepOf c n x)
+  pub step-taken : (n : ℕ) (g : Chain) → a ≡ verdict c n x → a ≤ 1 → g ≡ grown c x
+      → _≡_ {A = Stepped} (record { answer = a; chain = g }) (stepOf c n x)
   unfolding stepOf
   step-taken n g e h k = rw (← e, le-leb a 1 h, k)
 
-  pub step-refused : (n : ℕ) (g : Chain) → a ≡ verdict c n x → 1 < a → g ≡ refusedBy a c → _≡_ {A = Stepped} (record { answer = a; chain = g }) (stepOf c n x)
+  pub step-refused : (n : ℕ) (g : Chain) → a ≡ verdict c n x → 1 < a → g ≡ refusedBy a c
+      → _≡_ {A = Stepped} (record { answer = a; chain = g }) (stepOf c n x)
   unfolding stepOf
   step-refused n g e h k = rw (← e, lt-leb a 1 h, k)
 
-  pub part-taken : (p : List ℕ) → a ≡ verdict c (length p) x → a ≤ 1 → paste p (baseOf c) (x .bytes) (x .count) ≡ partOf c p x
+  pub part-taken : (p : List ℕ) → a ≡ verdict c (length p) x → a ≤ 1
+      → paste p (baseOf c) (x .bytes) (x .count) ≡ partOf c p x
   unfolding partOf
   part-taken p e h = rw (← e, le-leb a 1 h)
 

@@ -1,7 +1,7 @@
--- What a program needs of a call: it reads no more words than there are, the buffer keeps its length, and the bytes of a
--- finished chain stand in it. Assumes nothing.
-use Prim.Native.Nat.{ℕ, _+_, _*_, _≤_, _<_}
-use mathlib.Core.Path.{_≡_, refl, sym, ap, _∙_}
+-- What a program needs of a call: it reads no more words than there are, the buffer keeps its length, and the bytes of
+-- a finished chain stand in it. Assumes nothing.
+use Prim.Native.Nat.{ℕ, _+_, _≤_, _<_}
+use mathlib.Core.Path.{_≡_, sym, ap, _∙_}
 use mathlib.Core.Logic.{_⊎_, inl, inr}
 use mathlib.Core.List.{List}
 use native.Mathlib.Omega.{arith}
@@ -14,10 +14,11 @@ use Rattle.piece.proofs.PieceLaws.{piece-fine}
 use Rattle.chains.specs.declared.Chains.{Chains}
 use Rattle.chains.specs.Step.{partOf}
 use Rattle.chains.specs.Collect.{beside, bufferAfter, bufferWith, chainAt, chainOf, collected, collectedOf}
-use Rattle.chains.specs.Collect.{keptOpen, partAt, pieceOf, refusalOf, share, sorted}
+use Rattle.chains.specs.Collect.{keptOpen, partAt, pieceOf, refusalOf, share}
 use Rattle.chains.proofs.SortLaws.{chain-low, same-or-not}
 use Rattle.chains.proofs.StepLaws.{part-kept, step-answer, step-within}
-use Rattle.chains.proofs.CollectLaws.{buffer-piece, buffer-same, part-end, part-length, report-beside, report-kept}
+use Rattle.chains.proofs.CollectLaws.{buffer-piece, buffer-same, part-end, part-length, report-beside}
+use Rattle.chains.proofs.CollectLaws.{report-kept}
 use Rattle.chains.proofs.CollectLaws.{report-piece}
 use Rattle.chains.proofs.PartLaws.{length-with}
 
@@ -27,7 +28,7 @@ piece-low s e = chain-low (packet s) (inl e)
 
 module _ (cs : Chains) (b s : List ℕ) where
   -- the part of a piece's chain after it, and that it is as long
-  pub own-part : List ℕ
+  unfoldable pub own-part : List ℕ
   own-part = partOf (chainAt (chainOf s) cs) (partAt (chainOf s) b) (pieceOf s)
 
   pub own-length : refusalOf s ≡ goesOn → length own-part ≡ share b
@@ -50,7 +51,8 @@ module _ (cs : Chains) (b s : List ℕ) where
   unfolding collected keptOpen beside
   reads = go (same-or-not (refusalOf s) goesOn) (same-or-not (refusalOf s) badAddress)
     where
-      go : (refusalOf s ≡ goesOn) ⊎ (refusalOf s ≡ goesOn → ⊥) → (refusalOf s ≡ badAddress) ⊎ (refusalOf s ≡ badAddress → ⊥)
+      go : (refusalOf s ≡ goesOn) ⊎ (refusalOf s ≡ goesOn → ⊥)
+          → (refusalOf s ≡ badAddress) ⊎ (refusalOf s ≡ badAddress → ⊥)
           → collectedOf cs b s .read ≡ length (packet s)
       go (inl e) f = rw (report-piece cs b s e)
       go (inr n) (inl e) = rw (report-kept cs b s e)
@@ -64,7 +66,8 @@ module _ (cs : Chains) (b s : List ℕ) where
   unfolding keptOpen beside
   finished-asked h = go (same-or-not (refusalOf s) goesOn) (same-or-not (refusalOf s) badAddress)
     where
-      go : (refusalOf s ≡ goesOn) ⊎ (refusalOf s ≡ goesOn → ⊥) → (refusalOf s ≡ badAddress) ⊎ (refusalOf s ≡ badAddress → ⊥)
+      go : (refusalOf s ≡ goesOn) ⊎ (refusalOf s ≡ goesOn → ⊥)
+          → (refusalOf s ≡ badAddress) ⊎ (refusalOf s ≡ badAddress → ⊥)
           → refusalOf s ≡ goesOn
       go (inl e) f = e
       go (inr n) (inl e) = absurd (omega (arith, rw (report-kept cs b s e) at h))

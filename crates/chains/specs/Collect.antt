@@ -95,15 +95,7 @@ keptOpen cs n k read =
 -- no chain is asked, and none is named
 unfoldable pub beside : Chains → Screened → ℕ → Collected
 beside cs s read =
-    record {
-      answer = s .answer;
-      place = s .place;
-      read = read;
-      chain = noChain;
-      start = 0;
-      length = 0;
-      chains = cs;
-    }
+    record { answer = s .answer; place = s .place; read = read; chain = noChain; start = 0; length = 0; chains = cs }
 
 -- what a call reports, with the chains after it
 unfoldable pub collectedOf : Chains → List ℕ → List ℕ → Collected

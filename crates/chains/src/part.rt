@@ -73,7 +73,7 @@ fn grown(c: Chain, x: Piece) -> Chain
 {
     let length = base_of(c) + x.count;
     let shared = x.shared;
-    if (x.format == COMPLETE) | (x.format == END) {
+    if is_last(x) {
         return Chain {
             length,
             shared,

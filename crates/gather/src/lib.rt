@@ -1,9 +1,9 @@
 // A buffer's worth of whole messages: the packets of some words into their chains, and a line of text for
 // each message that is finished and for each open chain that is dropped.
 //
-// `gather_some` has no `requires`. It says by the run of the definitions what it reports, what is held
-// after it and what the text holds, on every input. A packet is looked at only where any line would still
-// fit, so no line is lost.
+// No public function has a `requires`. `gather_some` says by the run of the definitions what it reports,
+// what is held after it and what the text holds, on every input. A packet is looked at only where any line
+// would still fit, so no line is lost.
 use chains::Chains;
 use chains::Collected;
 use chains::collect;
@@ -50,7 +50,8 @@ fn is_full(len: usize, to: usize, buffer: usize) -> bool
     len - to < 3 * (buffer / 32) + 16
 }
 
-fn is_open(chains: Chains, chain: usize) -> bool
+// Whether a chain is open; a packet of none has none.
+pub fn is_open(chains: Chains, chain: usize) -> bool
     ensures { λ r. ⌜ r ≡ openAt chains chain ⌝ }
 {
     if chain < NO_CHAIN {

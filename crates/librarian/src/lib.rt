@@ -6,9 +6,11 @@
 // functions are proved to be safe and to end.
 use chains::Chains;
 use gather::gather_some;
+use gather::is_open;
 use libc::STDIN_FILENO;
 use libc::STDOUT_FILENO;
 use notice::Ending;
+use piece::NO_CHAIN;
 use start::Takes;
 use stream::NO_ROOM;
 use tally::SORTS;
@@ -91,15 +93,33 @@ fn turns(wrong: bool) -> LibrarianState {
     s
 }
 
+// Whether any chain is open.
+fn is_any_open(chains: Chains) -> bool {
+    let mut open = false;
+    let mut i: usize = 0;
+    while i < NO_CHAIN {
+        open = open | is_open(chains, i);
+        i += 1;
+    }
+    open
+}
+
+// How the input ended, where it was read to its end: within a packet, within a message, or with neither.
+fn ending(s: LibrarianState) -> Ending {
+    if s.ended & (0 < s.left) {
+        return Ending::CutPacket;
+    }
+    let chains = s.chains;
+    if s.ended & is_any_open(chains) {
+        return Ending::OpenMessage;
+    }
+    Ending::Whole
+}
+
 // The lines of the whole messages of standard input, and on standard error what was refused.
 pub fn whole() {
     let start = start::taken(b"whole", Takes::Nothing);
     let s = turns(start.wrong);
     let counts = s.counts;
-    let ending = if s.ended & (0 < s.left) {
-        Ending::CutPacket
-    } else {
-        Ending::Whole
-    };
-    notice::say_reader(b"whole", s.read, counts, ending);
+    notice::say_reader(b"whole", s.read, counts, ending(s));
 }

@@ -1,11 +1,12 @@
 -- A piece is fine, and a chain's number is at most that of none. Assumes nothing.
-use Prim.Native.Nat.{ℕ, _≤_, _<_}
+use Prim.Native.Nat.{ℕ, _≤_}
 use mathlib.Core.Path.{refl}
 use native.Mathlib.Omega.{arith}
 use lib.Dec.{eqb}
 use Rattle.ground.proofs.Cases.{choose}
-use Rattle.ump.specs.Word.{groupOf, messageType}
-use Rattle.piece.specs.Piece.{Fine, chainBy, chainFor, exclusive, exclusivePiece, flex, flexPiece, noChain, pieceFor}
+use Rattle.ump.specs.Word.{messageType}
+use Rattle.piece.specs.Piece.{Fine, chainBy, chainFor, exclusive, exclusivePiece, flex, flexPiece, noChain}
+use Rattle.piece.specs.Piece.{pieceFor}
 
 pub piece-fine : (t w a b c : ℕ) → Fine (pieceFor t w a b c)
 unfolding pieceFor flexPiece exclusivePiece

@@ -1,9 +1,9 @@
--- `chains::collect`: the packet is cut off and sorted once, and each way out is one of the definition's; a chain that is
--- asked or kept is one of the 32.
+-- `chains::collect`: the packet is cut off and sorted once, and each way out is one of the definition's; a chain that
+-- is asked or kept is one of the 32.
 use Prim.Native.Nat.{ℕ, _<_}
 use mathlib.Core.Path.{_≡_, sym, ap, _∙_}
 use mathlib.Core.List.{List}
-use mathlib.Core.Logic.{_⊎_, inl, inr, ⊎-elim}
+use mathlib.Core.Logic.{_⊎_, inl, inr}
 use native.Mathlib.Omega.{arith}
 use denote.Ref.{now}
 use borrow.Author.Needs.{needs}
@@ -41,7 +41,8 @@ module _ (c : tie.After-chain-of) where
 
   numbered : c .chain-of .result ≡ chainOf words
   unfolding own
-  numbered = c .chain-of .ensures ∙ ap chainBy (c .before .word-at .ensures) ∙ ap (λ (p : List ℕ). chainBy (first p)) cut-off
+  numbered = c .chain-of .ensures ∙ ap chainBy (c .before .word-at .ensures)
+      ∙ ap (λ (p : List ℕ). chainBy (first p)) cut-off
 
   -- a chain that is asked about: its number is below 32
   low : (refusalOf words ≡ goesOn) ⊎ (refusalOf words ≡ badAddress) → c .chain-of .result < 32
@@ -61,7 +62,8 @@ returns c =
     let x : c .before .before .before .piece-of .result ≡ pieceOf (words v) =
     c .before .before .before .piece-of .ensures ∙ ap pieceIn (cut-off v) in
     let t = c .before .before .take .ensures in (
-      simp (numbered v, ap length (cut-off v), x) at (t .0) ∙ sym (report-piece (a .chains) (now (a .buffer)) (words v) e),
+      simp (numbered v, ap length (cut-off v), x) at (t .0)
+          ∙ sym (report-piece (a .chains) (now (a .buffer)) (words v) e),
       simp (numbered v, x) at (t .1) ∙ sym (buffer-piece (a .chains) (now (a .buffer)) (words v) e),
     )
 

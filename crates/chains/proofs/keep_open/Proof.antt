@@ -10,7 +10,11 @@ use Rattle.chains.proofs.keep_open.Tie as tie
 mul-t7 : tie.Need-mul-t7
 mul-t7 c =
     let a = c .before .before .args in
-    omega (arith, start-fits (a .chain) (a .share) 18446744073709551615 (c .before .before .pre .0) (c .before .before .pre .1))
+    omega (
+      arith,
+      start-fits (a .chain) (a .share) 18446744073709551615 (c .before .before .pre .0)
+          (c .before .before .pre .1),
+    )
 
 returns : tie.Need-returns
 unfolding keptOpen

@@ -1,3 +1,4 @@
+-- `chains::of_chain`: test by test, in the definition's order.
 use Rattle.chains.specs.Collect.{ofChain}
 use Rattle.ground.proofs.Tests.{tests}
 use Rattle.chains.proofs.of_chain.Statement.{statement}

@@ -1,3 +1,4 @@
+-- `chains::sort_by`: what the screening refuses stays refused, and what goes on is asked for its chain.
 use Rattle.chains.specs.Collect.{sortBy}
 use Rattle.ground.proofs.Tests.{tests}
 use borrow.Author.Needs.{needs}

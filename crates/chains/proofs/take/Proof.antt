@@ -1,5 +1,5 @@
--- `chains::take` meets its contract: what is lent to the step is the chain's own part, and what comes back stands in its place.
--- Assumes nothing.
+-- `chains::take` meets its contract: what is lent to the step is the chain's own part, and what comes back stands in
+-- its place. Assumes nothing.
 use Prim.Native.Nat.{ℕ}
 use mathlib.Core.Path.{_≡_, ap, _∙_}
 use mathlib.Core.List.{List}
@@ -34,22 +34,28 @@ stepped : (c : tie.After-step) → let a = c .before .before .before .before .be
 stepped c =
     let a = c .before .before .before .before .before .args in
     let b = now (a .buffer) in
-    c .step .ensures .0 ∙ ap (λ (n : ℕ). stepOf (chainAt (a .chain) (a .chains)) n (a .piece)) (ap length (mid-part (a .chain) b) ∙ part-length (a .chain) b (c .before .before .before .before .before .pre .0))
+    c .step .ensures .0 ∙ ap (λ (n : ℕ). stepOf (chainAt (a .chain) (a .chains)) n (a .piece))
+    (ap length (mid-part (a .chain) b)
+    ∙ part-length (a .chain) b (c .before .before .before .before .before .pre .0))
 
 -- and its part
 parted : (c : tie.After-step) → let a = c .before .before .before .before .before .args in
     c .step .last .1 .0 ≡ partOf (chainAt (a .chain) (a .chains)) (partAt (a .chain) (now (a .buffer))) (a .piece)
 parted c =
     let a = c .before .before .before .before .before .args in
-    c .step .ensures .1 ∙ ap (λ (p : List ℕ). partOf (chainAt (a .chain) (a .chains)) p (a .piece)) (mid-part (a .chain) (now (a .buffer)))
+    c .step .ensures .1 ∙ ap (λ (p : List ℕ). partOf (chainAt (a .chain) (a .chains)) p (a .piece))
+    (mid-part (a .chain) (now (a .buffer)))
 
 returns : tie.Need-returns
 unfolding collected bufferWith
 returns c =
     let v = c .before .before .before in
     let a = v .before .before .before .before .before .args in
-    let b = now (a .buffer) in
-    (rw (stepped v), put-part (a .chain) b (v .step .last .1 .0) ∙ ap (λ (p : List ℕ). withPart (a .chain) p b) (parted v))
+    let b = now (a .buffer) in (
+      rw (stepped v),
+      put-part (a .chain) b (v .step .last .1 .0)
+          ∙ ap (λ (p : List ℕ). withPart (a .chain) p b) (parted v),
+    )
 
 pub take-spec : {M : Type 1} → statement M
 take-spec =

@@ -1,3 +1,4 @@
+-- `piece::chain_for`: the two message types that have chains, in the definition's order, and any other.
 use Rattle.piece.specs.Piece.{chainFor}
 use Rattle.ground.proofs.Tests.{tests}
 use borrow.Author.Needs.{needs}

@@ -1,3 +1,4 @@
+-- `piece::chain_of`: the chain of the word's message type and group.
 use borrow.Author.Needs.{needs}
 use Rattle.piece.proofs.chain_of.Statement.{statement}
 use Rattle.piece.proofs.chain_of.Tie as tie

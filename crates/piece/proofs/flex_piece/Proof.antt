@@ -1,3 +1,4 @@
+-- `piece::flex_piece`: each field is read by the function of its name.
 use Rattle.piece.specs.Piece.{flexPiece}
 use borrow.Author.Needs.{needs}
 use Rattle.piece.proofs.flex_piece.Statement.{statement}

@@ -1,3 +1,4 @@
+-- `piece::has_strange_address`: two tests of the word's fields.
 use borrow.Author.Needs.{needs}
 use Rattle.piece.proofs.has_strange_address.Statement.{statement}
 use Rattle.piece.proofs.has_strange_address.Tie as tie

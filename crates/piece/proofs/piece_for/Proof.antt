@@ -1,3 +1,4 @@
+-- `piece::piece_for`: Flex Data or an exclusive, by the message type.
 use Rattle.piece.specs.Piece.{pieceFor}
 use Rattle.ground.proofs.Tests.{tests}
 use borrow.Author.Needs.{needs}

@@ -1,4 +1,5 @@
--- `chains::part::grown` meets its contract, by whether the piece ends the message and whether a chain is open. Assumes nothing.
+-- `chains::part::grown` meets its contract, by whether the piece ends the message and whether a chain is open.
+-- Assumes nothing.
 use Rattle.chains.specs.Step.{grown}
 use Rattle.ground.proofs.Tests.{tests}
 use borrow.Author.Needs.{needs}
@@ -12,7 +13,17 @@ grown-spec =
     (tie.spec
     (λ c κs. search needs)
     (λ c. search needs)
-    (λ c. simp (tests, c .if1 .taken, c .before .before .before .before .base-of .ensures))
-    (λ c. simp (tests, c .if2 .taken, c .before .if1 .left, c .before .before .before .before .before .base-of .ensures))
+    (λ c κs. search needs)
+    (λ c. let b = c .before in
+    simp (tests, ← b .is-last .ensures, c .if1 .taken, b .before .before .base-of .ensures))
+    (λ c. let b = c .before .before in
+    simp (tests, c .if2 .taken, ← b .is-last .ensures, c .before .if1 .left, b .before .before .base-of .ensures))
     (λ c. search needs)
-    (λ c. simp (tests, c .before .if2 .left, c .before .before .if1 .left, c .before .before .before .before .before .before .base-of .ensures)))
+    (λ c. let b = c .before .before .before in
+    simp (
+      tests,
+      c .before .if2 .left,
+      ← b .is-last .ensures,
+      c .before .before .if1 .left,
+      b .before .before .base-of .ensures,
+    )))

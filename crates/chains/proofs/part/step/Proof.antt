@@ -1,5 +1,5 @@
--- `chains::part::step` meets its contract: an answer of 0 or 1 says that the piece fits (`taken`), and the step's two ways out are the
--- definition's. Assumes nothing.
+-- `chains::part::step` meets its contract: an answer of 0 or 1 says that the piece fits (`taken`), and the step's two
+-- ways out are the definition's. Assumes nothing.
 use mathlib.Core.Path.{_≡_}
 use native.Mathlib.Omega.{arith}
 use denote.Ref.{now}
@@ -11,8 +11,15 @@ use Rattle.chains.proofs.part.step.Statement.{statement}
 use Rattle.chains.proofs.part.step.Tie as tie
 
 -- the answer is the definition's verdict
-answered : (c : tie.After-verdict) → c .verdict .result ≡ verdict (c .before .before .before .before .before .args .c) (length (now (c .before .before .before .before .before .args .part))) (c .before .before .before .before .before .args .x)
-answered c = simp (c .before .is-last .ensures, c .before .before .is-stray .ensures, c .before .before .before .base-of .ensures) at (c .verdict .ensures)
+answered : (c : tie.After-verdict) → c .verdict .result
+    ≡ verdict (c .before .before .before .before .before .args .c)
+    (length (now (c .before .before .before .before .before .args .part)))
+    (c .before .before .before .before .before .args .x)
+answered c = simp (
+  c .before .is-last .ensures,
+  c .before .before .is-stray .ensures,
+  c .before .before .before .base-of .ensures,
+) at (c .verdict .ensures)
 
 put-requires : tie.Need-put-requires
 put-requires c κs =
@@ -35,7 +42,10 @@ returns c =
     let a = v .before .before .before .before .before .args in
     let h = c .before .before .before .before .before .before .if1 .taken in (
       step-taken (a .c) (a .x) _ _ _ (answered v) h (c .grown .ensures),
-      rw (c .before .before .before .put .ensures, v .before .before .before .base-of .ensures) (part-taken (a .c) (a .x) _ (now (a .part)) (answered v) h),
+      rw (
+        c .before .before .before .put .ensures,
+        v .before .before .before .base-of .ensures,
+      ) (part-taken (a .c) (a .x) _ (now (a .part)) (answered v) h),
     )
 
 returns-2 : tie.Need-returns-2

@@ -1,4 +1,5 @@
--- `chains::part::verdict` meets its contract, test by test: the room is asked by a difference, so that no sum can wrap. Assumes nothing.
+-- `chains::part::verdict` meets its contract, test by test: the room is asked by a difference, so that no sum can
+-- wrap. Assumes nothing.
 use Prim.Native.Nat.{_+_}
 use native.Mathlib.Omega.{arith}
 use borrow.Author.Tests.{le-ltb, lt-leb, lt-ltb}
@@ -15,10 +16,28 @@ verdict-spec =
     (λ c. simp (c .if1 .taken))
     (λ c. simp (tests, c .if2 .taken, c .before .if1 .left))
     (λ c. let a = c .before .before .before .args in
-    simp (lt-leb 32 (a .packets) (c .before .if2 .left), lt-ltb (a .room) (a .base + a .count) (omega arith), c .before .before .if1 .left))
+    simp (
+      lt-leb 32 (a .packets) (c .before .if2 .left),
+      lt-ltb (a .room) (a .base + a .count) (omega arith),
+      c .before .before .if1 .left,
+    ))
     (λ c. let a = c .before .before .before .before .args in
-    simp (lt-leb 32 (a .packets) (c .before .before .if2 .left), lt-ltb (a .room) (a .base + a .count) (omega arith), c .before .before .before .if1 .left))
+    simp (
+      lt-leb 32 (a .packets) (c .before .before .if2 .left),
+      lt-ltb (a .room) (a .base + a .count) (omega arith),
+      c .before .before .before .if1 .left,
+    ))
     (λ c. let a = c .before .before .before .before .before .args in
-    simp (lt-leb 32 (a .packets) (c .before .before .before .if2 .left), le-ltb (a .room) (a .base + a .count) (omega arith), c .if5 .taken, c .before .before .before .before .if1 .left))
+    simp (
+      lt-leb 32 (a .packets) (c .before .before .before .if2 .left),
+      le-ltb (a .room) (a .base + a .count) (omega arith),
+      c .if5 .taken,
+      c .before .before .before .before .if1 .left,
+    ))
     (λ c. let a = c .before .before .before .before .before .args in
-    simp (lt-leb 32 (a .packets) (c .before .before .before .if2 .left), le-ltb (a .room) (a .base + a .count) (omega arith), c .if5 .left, c .before .before .before .before .if1 .left)))
+    simp (
+      lt-leb 32 (a .packets) (c .before .before .before .if2 .left),
+      le-ltb (a .room) (a .base + a .count) (omega arith),
+      c .if5 .left,
+      c .before .before .before .before .if1 .left,
+    )))
