@@ -95,13 +95,13 @@ fn turns(wrong: bool) -> LibrarianState {
 
 // Whether any chain is open.
 fn is_any_open(chains: Chains) -> bool {
-    let mut open = false;
+    let mut any = false;
     let mut i: usize = 0;
     while i < NO_CHAIN {
-        open = open | is_open(chains, i);
+        any = any | is_open(chains, i);
         i += 1;
     }
-    open
+    any
 }
 
 // How the input ended, where it was read to its end: within a packet, within a message, or with neither.

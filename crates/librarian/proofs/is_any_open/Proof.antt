@@ -5,10 +5,10 @@ use Rattle.librarian.proofs.is_any_open.Statement.{statement}
 use Rattle.librarian.proofs.is_any_open.Tie as tie
 
 abbrev Inv-loop : tie.InvT-loop
-Inv-loop chains open₀ i₀ open i = Unit {0}
+Inv-loop chains any₀ i₀ any i = Unit {0}
 
 abbrev μ-loop : tie.MeasureT-loop
-μ-loop chains open₀ i₀ open i = 32 - i
+μ-loop chains any₀ i₀ any i = 32 - i
 
 pub is-any-open-spec : {M : Type 1} → statement M
 is-any-open-spec =
