@@ -72,7 +72,8 @@ fn is_dropping(answer: u32) -> bool
 fn put_line(before: Chains, one: Collected, buffer: &[u8], text: &mut [u8], to: usize) -> usize
     requires { ⌜ (one .answer ≡ sent → one .start + one .length ≤ length (now buffer)) ⌝ }
     ensures place { λ r. ⌜ r ≡ placeAfter (now (text .entry)) to (lineAfter before one (now (buffer .entry))) ⌝ }
-    ensures text { λ _. ⌜ now (text .exit) ≡ withRow (now (text .entry)) to (lineAfter before one (now (buffer .entry))) ⌝ }
+    ensures text { λ _. ⌜ now (text .exit)
+        ≡ withRow (now (text .entry)) to (lineAfter before one (now (buffer .entry))) ⌝ }
 {
     let answer = one.answer;
     let chain = one.chain;
