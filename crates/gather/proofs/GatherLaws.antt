@@ -1,10 +1,10 @@
 -- What one packet comes to, as the code says it and as the definition does; and that a step looks at its own packet alone,
 -- goes on only with a whole one, and always has room for its line. Assumes nothing.
-use Prim.Native.Nat.{ℕ, _+_, _-_, _≤_, _<_}
+use Prim.Native.Nat.{ℕ, _+_, _-_, _≤_}
 use mathlib.Core.Path.{_≡_, refl, sym, ap, _∙_, subst}
-use mathlib.Core.Bool.{Bool, true, false, cond}
+use mathlib.Core.Bool.{true, false, cond}
 use mathlib.Core.Logic.{⊎-elim}
-use mathlib.Core.List.{List, [], _∷_, _++_}
+use mathlib.Core.List.{List, [], _∷_}
 use native.Mathlib.Omega.{arith}
 use native.Mathlib.Nat.{add-zero, sub-zero}
 use lib.Dec.{eqb, ltb}
@@ -12,7 +12,7 @@ use lib.ListN.{drop, length, length-append, length-drop, take}
 use lib.Seq.{length-take-le, sets-eq, take-all}
 use borrow.Author.Tests.{eq-eqb, le-leb, ltb-false, ne-eqb}
 use Rattle.ground.specs.Store.{written}
-use Rattle.ground.proofs.Cases.{by-bool, choose}
+use Rattle.ground.proofs.Cases.{choose}
 use Rattle.ground.proofs.StoreLaws.{written-none}
 use Rattle.ump.specs.Packet.{first, packet, size}
 use Rattle.ump.proofs.PacketLaws.{at-none, packet-near, packet-size}
@@ -33,7 +33,7 @@ use Rattle.chains.proofs.CollectLaws.{buffer-same}
 use Rattle.chains.proofs.WithinLaws.{reads, reads-within, stands-within}
 use Rattle.tally.specs.Tally.{counted, sortOf}
 use Rattle.text.specs.Lines.{placeAfter, withRow}
-use Rattle.gather.specs.Gather.{Held, collectedAt, gather, gatheredAfter, gathering, held, heldAfter, lineAfter}
+use Rattle.gather.specs.Gather.{Held, collectedAt, gather, gatheredAfter, gathering, held, lineAfter}
 use Rattle.gather.specs.Gather.{lineAt, longest}
 use Rattle.gather.proofs.LineLaws.{line-short}
 

@@ -1,6 +1,6 @@
 -- The loop over the packets: one more call, and what it makes of the run so far. Assumes nothing.
 use Prim.Native.Nat.{ℕ, _+_, _-_, _≤_, _<_}
-use mathlib.Core.Path.{_≡_, refl, sym, ap, ap₂, _∙_, subst}
+use mathlib.Core.Path.{_≡_, sym, ap, ap₂, _∙_, subst}
 use mathlib.Core.List.{List}
 use native.Mathlib.Omega.{arith}
 use native.Mathlib.Nat.{sub-zero}
@@ -11,7 +11,7 @@ use Rattle.stream.specs.declared.Done.{Done}
 use Rattle.stream.specs.Answers.{sent}
 use Rattle.stream.specs.Call.{Call, answerOf, leftOf, readOf, sentOf, within}
 use Rattle.stream.specs.Report.{counting, reported}
-use Rattle.stream.specs.Run.{Ran, run}
+use Rattle.stream.specs.Run.{run}
 use Rattle.stream.proofs.RunLaws.{ample}
 use Rattle.stream.proofs.RunLoop.{DidRun, Runs, finish, turn}
 use Rattle.stream.proofs.RunLoop as loop

@@ -1,8 +1,8 @@
 -- A line is never longer than the room that is asked for: a finished chain has no more bytes than its part, the head of a
 -- line has at most twelve, and the answers that drop have two digits. Assumes nothing.
-use Prim.Native.Nat.{ℕ, _+_, _*_, _≤_, _<_}
-use mathlib.Core.Path.{_≡_, refl, sym, _∙_}
-use mathlib.Core.Bool.{Bool, true, false, cond, _&&_, _||_}
+use Prim.Native.Nat.{ℕ, _≤_, _<_}
+use mathlib.Core.Path.{_≡_, sym, _∙_}
+use mathlib.Core.Bool.{true, false, _&&_}
 use mathlib.Core.List.{List, []}
 use native.Mathlib.Omega.{arith}
 use lib.Dec.{eqb, ltb}
@@ -17,8 +17,7 @@ use Rattle.chains.specs.Collect.{bufferAfter, chainAt, chainOf, collected, coll
 use Rattle.chains.proofs.CollectLaws.{report-piece}
 use Rattle.chains.proofs.StepLaws.{step-answer, step-within}
 use Rattle.chains.proofs.WithinLaws.{finished-asked}
-use Rattle.text.specs.Lines.{places}
-use Rattle.text.specs.Messages.{droppedLine, exclusiveName, flexName, headOf, messageLine, sortName}
+use Rattle.text.specs.Messages.{droppedLine, headOf, messageLine, sortName}
 use Rattle.text.proofs.LineLaws.{few}
 use Rattle.text.proofs.MessageLaws.{dropped-length, head-most, message-length}
 use Rattle.gather.specs.Gather.{Held, bytesOf, collectedAt, drops, lineAfter, lineAt, longest, openAt}

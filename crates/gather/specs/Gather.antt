@@ -8,13 +8,13 @@ use lib.ListN.{drop, length, take}
 use Rattle.ump.specs.Packet.{cut, packet}
 use Rattle.stream.specs.declared.Done.{Done}
 use Rattle.stream.specs.Answers.{cutPacket, noRoom, outOfTurn, sent, tooLong, tooManyPackets}
-use Rattle.stream.specs.Call.{Call, answerOf, leftOf, readOf, sentOf, stopped, went}
+use Rattle.stream.specs.Call.{Call, answerOf, readOf, sentOf, stopped, went}
 use Rattle.stream.specs.Report.{counting}
 use Rattle.stream.specs.Run.{Ran, run}
 use Rattle.piece.specs.Piece.{noChain}
 use Rattle.chains.specs.declared.Chains.{Chains}
 use Rattle.chains.specs.declared.Collected.{Collected}
-use Rattle.chains.specs.Collect.{bufferAfter, chainAt, collectedOf, share}
+use Rattle.chains.specs.Collect.{bufferAfter, chainAt, collectedOf}
 use Rattle.tally.specs.Tally.{counted, sortOf}
 use Rattle.text.specs.Messages.{droppedLine, messageLine}
 use Rattle.gather.specs.declared.Gathered.{Gathered}

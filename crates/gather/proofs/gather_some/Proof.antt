@@ -1,6 +1,6 @@
 -- `gather::gather_some` meets its contract. The loop's invariant: what was done, and then the run from here, is the whole
 -- run, and the buffer keeps its length. The measure is the words left. Assumes nothing.
-use Prim.Native.Nat.{ℕ, _-_, _<_}
+use Prim.Native.Nat.{_-_, _<_}
 use mathlib.Core.Path.{_≡_, refl, ap, _∙_}
 use native.Mathlib.Omega.{arith}
 use borrow.Author.Needs.{needs}

@@ -1,7 +1,7 @@
 -- `gather::put_line`: a finished chain has the line of its bytes, a dropped one that of its answer, and no other call has
 -- one. Assumes nothing.
 use Prim.Native.Nat.{ℕ, _-_, _≤_}
-use mathlib.Core.Path.{_≡_, sym, _∙_}
+use mathlib.Core.Path.{_≡_, sym}
 use mathlib.Core.List.{List}
 use native.Mathlib.Omega.{arith}
 use borrow.Author.Needs.{needs}
