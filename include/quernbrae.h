@@ -226,13 +226,13 @@ uint32_t quernbrae_give_group(uint8_t *owners, size_t owners_len,
 /* The chains before the first packet: none is open. */
 quernbrae_chains quernbrae_chains_closed(void);
 
-/* Collects whole messages (docs/RULES.md, 13): the packet at the start of the words goes into its chain, whose bytes
+/* Collects whole messages (docs/RULES.md, 14): the packet at the start of the words goes into its chain, whose bytes
  * stand in its own part of the buffer, one of 32 of equal length. Answer 0 says that a message is whole: its bytes are
  * the length ones from start on, until the next packet of that chain. */
 quernbrae_collected quernbrae_collect(quernbrae_chains chains, uint8_t *buffer, size_t buffer_len,
                                       const uint32_t *words, size_t words_len);
 
-/* The form of 16 bits of a maker identity, from its old form (docs/RULES.md, 12): one byte of 1 to 127, or 0 and two
+/* The form of 16 bits of a maker identity, from its old form (docs/RULES.md, 13): one byte of 1 to 127, or 0 and two
  * bytes of at most 127. Any other bytes are answered 14. */
 quernbrae_identity quernbrae_identity_new(const uint8_t *old, size_t old_len);
 

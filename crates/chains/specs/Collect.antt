@@ -1,4 +1,4 @@
--- All 32 chains and the buffer (RULES 13; 02 M-106): what a packet is answered with, and that it goes to its own chain
+-- All 32 chains and the buffer (RULES 14; 02 M-106): what a packet is answered with, and that it goes to its own chain
 -- and its own part. A call is given the words from the packet's first on.
 use Prim.Native.Nat.{ℕ, _+_, _*_, _/_}
 use mathlib.Core.Bool.{Bool, cond}

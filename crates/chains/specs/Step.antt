@@ -1,4 +1,4 @@
--- One piece into one chain and its part of the buffer (RULES 13; 02 M-106). No other chain is named here.
+-- One piece into one chain and its part of the buffer (RULES 14; 02 M-106). No other chain is named here.
 use Prim.Native.Nat.{ℕ, _+_}
 use mathlib.Core.Bool.{Bool, cond, not, _||_}
 use mathlib.Core.List.{List}

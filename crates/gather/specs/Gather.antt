@@ -1,4 +1,4 @@
--- Whole messages as lines (RULES 13.5; 02 M-106): a call of the collector for each packet, and the line of the message
+-- Whole messages as lines (RULES 14.5; 02 M-106): a call of the collector for each packet, and the line of the message
 -- that it finishes or of the open chain that it drops.
 use Prim.Native.Nat.{ℕ, _+_, _*_, _-_, _/_}
 use mathlib.Core.Bool.{Bool, cond, not, _&&_, _||_}

@@ -1,4 +1,4 @@
--- What is claimed of chains, over lists of packets (RULES 13; 02 M-106). A call is given the words from its packet's
+-- What is claimed of chains, over lists of packets (RULES 14; 02 M-106). A call is given the words from its packet's
 -- first on, so a packet is such a list of words.
 use Prim.Native.Nat.{ℕ, _+_, _*_, _≤_, _<_}
 use mathlib.Core.Path.{_≡_}

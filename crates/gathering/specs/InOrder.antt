@@ -1,4 +1,4 @@
--- What a packet is answered, case by case (RULES 13; 02 M-106).
+-- What a packet is answered, case by case (RULES 14; 02 M-106).
 use Prim.Native.Nat.{ℕ, _+_}
 use mathlib.Core.Path.{_≡_}
 use mathlib.Core.Bool.{Bool, cond, not, _&&_, _||_}

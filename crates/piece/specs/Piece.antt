@@ -1,4 +1,4 @@
--- The piece of a message that a packet carries, and the chain that it belongs to (RULES 13; 01 "Layouts and rules for
+-- The piece of a message that a packet carries, and the chain that it belongs to (RULES 14; 01 "Layouts and rules for
 -- later parts"; 02 M-106). A packet is given by its own words.
 use Prim.Native.Nat.{ℕ, _+_, _≤_, _%_, _^_, min}
 use mathlib.Core.Path.{_≡_}

@@ -30,7 +30,7 @@ places n = placesIn n n
 abbrev pub decimal : ℕ → List ℕ
 decimal n = digits 10 (places n) n
 
--- RULES 10.2 and 13.5: each number in hex of k digits, with a space (32) before it
+-- RULES 10.2 and 14.5: each number in hex of k digits, with a space (32) before it
 unfoldable pub fieldsOf : ℕ → List ℕ → List ℕ
 fieldsOf k [] = []
 fieldsOf k (w ∷ ws) = (32 ∷ digits 16 k w) ++ fieldsOf k ws
