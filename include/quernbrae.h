@@ -33,6 +33,11 @@ enum {
     QUERNBRAE_DROPPED = 11,       /* from a cable: a byte or a message is dropped (12.2) */
     QUERNBRAE_CUT_OFF = 12,       /* from a cable: an exclusive is cut off, and its closing packet sent (12.2) */
     QUERNBRAE_NOT_YOURS = 13,     /* of a host: the group is not its own (2.6) */
+    QUERNBRAE_NO_COUNTERPART = 14, /* of a maker identity: it has no such form in the other kind (12) */
+    QUERNBRAE_OUT_OF_TURN = 15,      /* of a chain: the packet does not go on where it stands; an open one is dropped */
+    QUERNBRAE_TOO_MANY_PACKETS = 16, /* of a chain: the 33rd packet of Flex Data; it is dropped (13.3) */
+    QUERNBRAE_BAD_ADDRESS = 17,      /* Flex Data for address 2 or 3; the chain stays (13.3) */
+    QUERNBRAE_TOO_LONG = 18,         /* of a chain: the packet does not fit in its part; it is dropped (13.3) */
     QUERNBRAE_NOT_FOR_ROOM = 23,  /* in the beginners' room: good, but not on its list (2.5) */
     QUERNBRAE_OUT_OF_RANGE = 24,  /* no such group, channel or host: of a question, mark, giving or replay (5, 11), and
                                    * of a cable (12) */
@@ -78,6 +83,45 @@ typedef struct {
 
 /* Stands for the lowest key where none is down. */
 enum { QUERNBRAE_NO_KEY = 255 };
+
+/* A maker identity of 16 bits. */
+typedef struct {
+    uint32_t answer; /* 0 or 14 */
+    uint32_t number; /* 0 where there is none */
+} quernbrae_identity;
+
+/* A maker identity of bytes. */
+typedef struct {
+    uint32_t answer;  /* 0 or 14 */
+    uint32_t count;   /* 1 or 3, or 0 where there is none */
+    uint8_t bytes[4]; /* the first count of them, and zeros behind these */
+} quernbrae_maker;
+
+/* The number of chains: exclusives of groups 0 to 15, then Flex Data of groups 0 to 15 (13.1). It also stands for the
+ * chain of a packet that belongs to none. */
+enum { QUERNBRAE_CHAINS = 32, QUERNBRAE_NO_CHAIN = 32 };
+
+/* What is known of a chain beside its bytes (13.1). */
+typedef struct {
+    size_t length;    /* bytes in its part */
+    uint32_t shared;  /* Flex Data: address, channel, bank and status, the lowest 22 bits of its packets' first words */
+    uint32_t packets; /* 0 while none is open; an open exclusive has 1 */
+} quernbrae_chain;
+
+typedef struct {
+    quernbrae_chain all[QUERNBRAE_CHAINS];
+} quernbrae_chains;
+
+/* What the collector reports of a packet (13.3). */
+typedef struct {
+    uint32_t answer; /* 0, 1, 3, 4, 6, 7, 15, 16, 17 or 18 */
+    uint32_t place;  /* after answer 7 that of the first bad field, from 1 (2.4); else 0 */
+    size_t read;     /* words read */
+    size_t chain;    /* the packet's chain, or QUERNBRAE_NO_CHAIN */
+    size_t start;    /* where the part of that chain begins in the buffer */
+    size_t length;   /* the bytes that the chain has after the packet: after answer 0 the whole message */
+    quernbrae_chains chains; /* hand these on to the next call */
+} quernbrae_collected;
 
 /* The empty record: no key down, kind none, all five numbers missing, no mark. Fill a table with it before the first
  * packet (docs/RULES.md, 5.1). */
@@ -226,6 +270,23 @@ quernbrae_done quernbrae_export(uint8_t group,
 quernbrae_done quernbrae_run_export(uint8_t group,
                                     const uint32_t *words, size_t words_len,
                                     uint8_t *out, size_t out_len);
+
+/* The chains before the first packet: none is open. */
+quernbrae_chains quernbrae_chains_closed(void);
+
+/* Collects whole messages (docs/RULES.md, 14): the packet at the start of the words goes into its chain, whose bytes
+ * stand in its own part of the buffer, one of 32 of equal length. Answer 0 says that a message is whole: its bytes are
+ * the length ones from start on, until the next packet of that chain. */
+quernbrae_collected quernbrae_collect(quernbrae_chains chains, uint8_t *buffer, size_t buffer_len,
+                                      const uint32_t *words, size_t words_len);
+
+/* The form of 16 bits of a maker identity, from its old form (docs/RULES.md, 13): one byte of 1 to 127, or 0 and two
+ * bytes of at most 127. Any other bytes are answered 14. */
+quernbrae_identity quernbrae_identity_new(const uint8_t *old, size_t old_len);
+
+/* And back: 0, what has bit 15 clear and is above 127, and what has bits 15 and 7 set, is answered 14. What one of the
+ * two gives with answer 0, the other turns back into what it was. */
+quernbrae_maker quernbrae_identity_old(uint16_t number);
 
 #ifdef __cplusplus
 }

@@ -1,13 +1,17 @@
 // What a caller uses: one call and a run, up and down, over the table that the caller lends, what may
-// be asked of the table, its coarse marks, all that for two hosts that share it, and one channel's
-// packets alone, under the names that C and Rust link (include/quernbrae.h). The five-pin sockets stand
-// in a file of their own.
+// be asked of the table, its coarse marks, all that for two hosts that share it, one channel's packets
+// alone, whole messages out of packets, and maker identities, under the names that C and Rust link
+// (include/quernbrae.h). The five-pin sockets stand in a file of their own.
 //
 // No function has a `requires`. Each contract gives the report, the table and the output at exit by
 // the definitions of the crates below, on every input.
 mod sockets;
 
+use chains::Chains;
+use chains::Collected;
 use channel::Record;
+use identity::Identity;
+use identity::Maker;
 use question::KeysDown;
 pub use sockets::quernbrae_cable_idle;
 pub use sockets::quernbrae_export;
@@ -28,6 +32,8 @@ ghost use Rattle.mark.specs.Mark.{markAnswer, tableMarked};
 ghost use Rattle.hosts.specs.Hosts.{hostKeysAsked, hostMarkAnswer, hostOneDown, hostOneUp, hostRunDown, hostRunUp};
 ghost use Rattle.hosts.specs.Hosts.{hostTableMarked};
 ghost use Rattle.handover.specs.Handover.{giveAnswer, ownersAfter, tableGiven};
+ghost use Rattle.chains.specs.Collect.{allClosed, bufferAfter, collectedOf};
+ghost use Rattle.identity.specs.Identity.{identityFrom, makerFrom, newOf, oldOf};
 ghost use Rattle.lesson.specs.Lesson.{lesson, lessonReport};
 ghost use Rattle.voice.specs.Packet.{oneDown, runDown};
 ghost use Rattle.table.specs.Table.{beginnersOneUp, beginnersRunUp, oneUp, runUp, tableAfter};
@@ -316,4 +322,38 @@ pub extern "C" fn quernbrae_give_group(
     let given = handover::give(owners, table.len(), group, host);
     handover::empty_from(table, given.from, given.count);
     given.answer
+}
+
+// The chains before the first packet: none is open.
+#[no_mangle]
+pub extern "C" fn quernbrae_chains_closed() -> Chains
+    ensures { λ r. ⌜ r ≡ allClosed ⌝ }
+{
+    chains::all_closed()
+}
+
+// One call of the collector: the packet at the start of the words goes into its chain, whose bytes stand
+// in the buffer.
+#[no_mangle]
+pub extern "C" fn quernbrae_collect(chains: Chains, buffer: &mut [u8], words: &[u32]) -> Collected
+    ensures report { λ r. ⌜ r ≡ collectedOf chains (now (buffer .entry)) (now (words .entry)) ⌝ }
+    ensures buffer { λ _. ⌜ now (buffer .exit) ≡ bufferAfter chains (now (buffer .entry)) (now (words .entry)) ⌝ }
+{
+    chains::collect(chains, buffer, words)
+}
+
+// The form of 16 bits of a maker identity, from its bytes.
+#[no_mangle]
+pub extern "C" fn quernbrae_identity_new(old: &[u8]) -> Identity
+    ensures { λ r. ⌜ r ≡ identityFrom (newOf (now (old .entry))) ⌝ }
+{
+    identity::identity_new(old)
+}
+
+// The bytes of a maker identity, from its form of 16 bits.
+#[no_mangle]
+pub extern "C" fn quernbrae_identity_old(number: u16) -> Maker
+    ensures { λ r. ⌜ r ≡ makerFrom (oldOf number) ⌝ }
+{
+    identity::identity_old(number)
 }

@@ -26,7 +26,8 @@ pub enum Way {
     Out(u8),
 }
 
-fn sort_of(answer: u32, place: u32) -> u64
+// The sort of a call by its answer and the place of bad data, which is 0 where there is none.
+pub fn sort_of(answer: u32, place: u32) -> u64
     ensures { λ r. ⌜ r ≡ sortOf answer place ⌝ }
 {
     if place == 0 {

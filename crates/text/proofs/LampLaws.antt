@@ -116,7 +116,7 @@ module _ (group channel : ℕ) (keys : Keys) (lowest : ℕ) where
       ))
 
 -- an empty row changes nothing
-none-put : (l : List ℕ) (to : ℕ) → (to ≡ placeAfter l to []) × (l ≡ withRow l to [])
+pub none-put : (l : List ℕ) (to : ℕ) → (to ≡ placeAfter l to []) × (l ≡ withRow l to [])
 none-put l to = rw (le-leb 0 (length l - to) (omega arith)) (omega arith, refl)
 
 -- a channel with no key down has no line, and nothing is put in its place

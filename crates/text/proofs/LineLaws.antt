@@ -2,15 +2,16 @@
 use Prim.Native.Nat.{ℕ, zero, suc, _+_, _*_, _/_, _%_, _-_, _^_, _≤_, _<_}
 use mathlib.Core.Path.{_≡_, refl, sym, ap, _∙_}
 use mathlib.Core.Bool.{Bool, true, false, cond}
+use mathlib.Core.Logic.{_↔_}
 use mathlib.Core.List.{List, [], _∷_, _++_, append-assoc, append-nil}
 use native.Mathlib.Omega.{arith}
-use native.Mathlib.Nat.{div-div-eq-div-mul, div-one, pow-suc, pow-zero}
+use native.Mathlib.Nat.{div-div-eq-div-mul, div-one, le-div-iff-mul-le, mul-comm, mul-suc, mul-zero, pow-suc, pow-zero}
 use native.Mathlib.Numerals.{add-one}
 use lib.Dec.{eqb, leb, ltb}
 use lib.ListN.{length, length-append, getD, set, take}
 use lib.Seq.{length-take-le, sets, take-suc}
 use borrow.Author.Tests.{eqb-false, le-leb, le-ltb, leb-false, leb-true, lt-leb, lt-ltb, ltb-false, ne-eqb}
-use Rattle.text.specs.Lines.{decimal, digits, glyph, hex, hexFields, lineOf, placeField, places, placesIn}
+use Rattle.text.specs.Lines.{decimal, digits, fieldsOf, glyph, hexFields, lineOf, placeField, places, placesIn}
 use Rattle.ground.proofs.Cases.{by-bool}
 use Rattle.ground.proofs.Stores.{set-sets, sets-append}
 
@@ -83,34 +84,52 @@ rest-on n b count i p q =
     let e : count - (i - 1) ≡ suc (count - i) = omega arith in
     rw (e, pow-suc b (count - i)) (div-div-eq-div-mul n (b ^ (count - i)) b)
 
--- as many words as the room after the head has nine bytes for
-pub room-for : (words head room : ℕ) → head ≤ room → leb words ((room - head) / 9) ≡ leb (head + 9 * words) room
-room-for words head room h = go (leb words ((room - head) / 9)) refl
+-- as many as the room after the head has so many bytes for each
+pub room-for : (count head room each : ℕ) → 0 < each → head ≤ room
+    → leb count ((room - head) / each) ≡ leb (head + each * count) room
+room-for count head room each p h = go (leb count ((room - head) / each)) refl
   where
-    go : (b : Bool) → leb words ((room - head) / 9) ≡ b → b ≡ leb (head + 9 * words) room
-    go true e = sym (le-leb (head + 9 * words) room (omega (arith, leb-true words ((room - head) / 9) e)))
-    go false e = sym (lt-leb (head + 9 * words) room (omega (arith, leb-false words ((room - head) / 9) e)))
+    all : (count ≤ (room - head) / each) ↔ (count * each ≤ room - head)
+    all = le-div-iff-mul-le p
 
-pub fields-length : (ws : List ℕ) → length (hexFields ws) ≡ 9 * length ws
-unfolding hexFields digits
-fields-length [] = refl
-fields-length (w ∷ ws) = omega (arith, fields-length ws)
+    go : (b : Bool) → leb count ((room - head) / each) ≡ b → b ≡ leb (head + each * count) room
+    go true e =
+        let q = all .0 (leb-true count ((room - head) / each) e) in
+        sym (le-leb (head + each * count) room (omega (arith, q, mul-comm count each)))
+    go false e =
+        let n : count * each ≤ room - head → ⊥ =
+        λ q. omega (arith, all .1 q, leb-false count ((room - head) / each) e) in
+        sym (lt-leb (head + each * count) room (omega (arith, n, mul-comm count each)))
 
-fields-append : (xs ys : List ℕ) → hexFields (xs ++ ys) ≡ hexFields xs ++ hexFields ys
-unfolding hexFields
-fields-append [] ys = refl
-fields-append (x ∷ xs) ys = rw (fields-append xs ys) (sym (append-assoc (32 ∷ hex x) (hexFields xs) (hexFields ys)))
+pub fields-length : (k : ℕ) (ws : List ℕ) → length (fieldsOf k ws) ≡ suc k * length ws
+unfolding fieldsOf
+fields-length k [] = sym (mul-zero (suc k))
+fields-length k (w ∷ ws) =
+    omega (
+      arith,
+      length-append (32 ∷ digits 16 k w) (fieldsOf k ws),
+      digits-length 16 k w,
+      fields-length k ws,
+      mul-suc (suc k) (length ws),
+    )
 
--- the loop that stores the fields: one more word
-pub fields-more : (l ws : List ℕ) (to i : ℕ) → i < length ws
-    → sets (set (sets l to (hexFields (take i ws))) (to + 9 * i) 32) (to + 9 * i + 1) (hex (getD ws i 0))
-    ≡ sets l to (hexFields (take (i + 1) ws))
-unfolding hexFields
-fields-more l ws to i h =
-    let f = hexFields (take i ws) in
-    let w : List ℕ = 32 ∷ hex (getD ws i 0) in
-    let n : to + length f ≡ to + 9 * i = omega (arith, fields-length (take i ws), length-take-le i ws (omega arith)) in
-    rw (add-one i, add-one (to + 9 * i), take-suc ws i 0 h, fields-append (take i ws) (getD ws i 0 ∷ []), append-nil w)
+fields-append : (k : ℕ) (xs ys : List ℕ) → fieldsOf k (xs ++ ys) ≡ fieldsOf k xs ++ fieldsOf k ys
+unfolding fieldsOf
+fields-append k [] ys = refl
+fields-append k (x ∷ xs) ys =
+    rw (fields-append k xs ys) (sym (append-assoc (32 ∷ digits 16 k x) (fieldsOf k xs) (fieldsOf k ys)))
+
+-- the loop that stores the fields: one more of them
+pub fields-more : (k : ℕ) (l ws : List ℕ) (to i : ℕ) → i < length ws
+    → sets (set (sets l to (fieldsOf k (take i ws))) (to + suc k * i) 32) (to + suc k * i + 1) (digits 16 k (getD ws i 0))
+    ≡ sets l to (fieldsOf k (take (i + 1) ws))
+unfolding fieldsOf
+fields-more k l ws to i h =
+    let f = fieldsOf k (take i ws) in
+    let w : List ℕ = 32 ∷ digits 16 k (getD ws i 0) in
+    let n : to + length f ≡ to + suc k * i =
+    ap (λ (m : ℕ). to + m) (fields-length k (take i ws) ∙ ap (λ (m : ℕ). suc k * m) (length-take-le i ws (omega arith))) in
+    rw (add-one i, add-one (to + suc k * i), take-suc ws i 0 h, fields-append k (take i ws) (getD ws i 0 ∷ []), append-nil w)
     (rw (sets-append l to f w, n))
 
 pub place-length : (place : ℕ) → (place ≡ 0 → ⊥) → length (placeField place) ≡ 1 + places place
@@ -139,7 +158,7 @@ line-length answer read place ws =
     let q = length-append (decimal answer ++ (32 ∷ decimal read) ++ k) (hexFields ws) in
     let o = length-append (decimal answer ++ (32 ∷ decimal read)) k in
     let r = length-append (decimal answer) (32 ∷ decimal read) in
-    omega (arith, fields-length ws, digits-length 10 (places answer) answer, digits-length 10 (places read) read)
+    omega (arith, fields-length 8 ws, digits-length 10 (places answer) answer, digits-length 10 (places read) read)
 
 pub line-fits : (answer read place a b c : ℕ) (ws : List ℕ) (room : ℕ) (t : Bool) → a ≡ places answer → b ≡ places read
     → c ≡ length (placeField place)
@@ -166,7 +185,7 @@ line-stored l to answer read place a b c ws ea eb ec =
     let two : to + length (d ++ (32 ∷ e)) ≡ to + places answer + 1 + places read = omega arith in
     let three : to + length (d ++ (32 ∷ e) ++ k) ≡ to + places answer + 1 + places read + length k = omega arith in
     let four : to + length (d ++ (32 ∷ e) ++ k ++ f) ≡ to + places answer + 1 + places read + length k + 9 * length ws =
-    omega (arith, length-append (d ++ (32 ∷ e) ++ k) f, fields-length ws) in
+    omega (arith, length-append (d ++ (32 ∷ e) ++ k) f, fields-length 8 ws) in
     rw (
       ea,
       eb,

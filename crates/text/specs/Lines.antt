@@ -30,14 +30,14 @@ places n = placesIn n n
 abbrev pub decimal : ℕ → List ℕ
 decimal n = digits 10 (places n) n
 
--- RULES 10.2: a word in hex, always eight digits
-abbrev pub hex : ℕ → List ℕ
-hex w = digits 16 8 w
+-- RULES 10.2 and 14.5: each number in hex of k digits, with a space (32) before it
+unfoldable pub fieldsOf : ℕ → List ℕ → List ℕ
+fieldsOf k [] = []
+fieldsOf k (w ∷ ws) = (32 ∷ digits 16 k w) ++ fieldsOf k ws
 
--- RULES 10.2: each word, with a space (32) before it
-unfoldable pub hexFields : List ℕ → List ℕ
-hexFields [] = []
-hexFields (w ∷ ws) = (32 ∷ hex w) ++ hexFields ws
+-- RULES 10.2: each word so
+abbrev pub hexFields : List ℕ → List ℕ
+hexFields ws = fieldsOf 8 ws
 
 -- RULES 10.2: a place, with a space before it; 0 is none
 unfoldable pub placeField : ℕ → List ℕ

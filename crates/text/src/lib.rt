@@ -1,11 +1,15 @@
 // Lines of text. A line of the listing: the answer, the words read, a place where there is one, and each
 // word sent in upper-case hex. A line of the panel: a channel with keys down, and a lamp for each key.
+// A line of a whole message, and one of a message that is dropped.
 //
-// `line` and `lamps` have no `requires`. They say what they answer and what the lent buffer holds after
-// them, on every input: a line that does not fit is not begun.
+// No public function has a `requires`. Each says what it answers and what the lent buffer holds after
+// it, on every input: a line that does not fit is not begun.
 mod panel;
+mod whole;
 
 pub use panel::lamps;
+pub use whole::dropped;
+pub use whole::message;
 ghost use mathlib.Core.Path.{_≡_};
 ghost use Prim.Native.Nat.{_+_, _*_, _-_, _<_, _≤_};
 ghost use lib.Dec.{leb};
@@ -78,10 +82,10 @@ fn put_hex_fields(words: &[u32], out: &mut [u8], to: usize) -> usize
     at
 }
 
-// Whether so many bytes and so many words with a space before each fit from a place on.
-fn is_room(len: usize, to: usize, head: usize, words: usize) -> bool
-    requires { ⌜ 0 < head ⌝ }
-    ensures { λ r. ⌜ r ≡ leb (head + 9 * words) (len - to) ⌝ }
+// Whether so many bytes and a count of so many each fit from a place on.
+fn has_room(len: usize, to: usize, head: usize, count: usize, each: usize) -> bool
+    requires { ⌜ (0 < head) × (0 < each) ⌝ }
+    ensures { λ r. ⌜ r ≡ leb (head + each * count) (len - to) ⌝ }
 {
     if len <= to {
         return false;
@@ -90,7 +94,15 @@ fn is_room(len: usize, to: usize, head: usize, words: usize) -> bool
     if room < head {
         return false;
     }
-    words <= (room - head) / 9
+    count <= (room - head) / each
+}
+
+// Whether so many bytes and so many words with a space before each fit from a place on.
+fn is_room(len: usize, to: usize, head: usize, words: usize) -> bool
+    requires { ⌜ 0 < head ⌝ }
+    ensures { λ r. ⌜ r ≡ leb (head + 9 * words) (len - to) ⌝ }
+{
+    has_room(len, to, head, words, 9)
 }
 
 // How many bytes a place takes with the space before it; none has none.

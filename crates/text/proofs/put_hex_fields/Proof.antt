@@ -6,7 +6,7 @@ use native.Mathlib.Omega.{arith}
 use borrow.Author.Needs.{needs}
 use lib.ListN.{length, length-set, take}
 use lib.Seq.{sets, take-all}
-use Rattle.text.specs.Lines.{hexFields}
+use Rattle.text.specs.Lines.{fieldsOf, hexFields}
 use Rattle.text.proofs.LineLaws.{fields-more}
 use Rattle.text.proofs.put_hex_fields.Statement.{statement}
 use Rattle.text.proofs.put_hex_fields.Tie as tie
@@ -20,7 +20,7 @@ abbrev μ-loop : tie.MeasureT-loop
 μ-loop words out₀ to at₀ i₀ out at i = length words - i
 
 loop-holds : tie.Need-loop-holds Inv-loop μ-loop
-unfolding hexFields
+unfolding fieldsOf
 loop-holds c = (omega arith, omega arith, refl, refl)
 
 loop-again : tie.Need-loop-again Inv-loop μ-loop
@@ -32,7 +32,7 @@ loop-again c =
       omega arith,
       (simp length-set at (c .before .before .spell .kept .1 .1 .1 .0)) ∙ l .inv .2,
       rw (c .before .before .spell .ensures, l .inv .3, l .inv .1)
-          (fields-more (a .out .now) (a .words .now) (a .to) (l .i) (t .loop-test .taken)),
+          (fields-more 8 (a .out .now) (a .words .now) (a .to) (l .i) (t .loop-test .taken)),
     )
 
 returns : tie.Need-returns Inv-loop μ-loop

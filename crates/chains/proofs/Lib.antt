@@ -1,0 +1,5 @@
+pub mod SortLaws
+pub mod StepLaws
+pub mod CollectLaws
+pub mod PartLaws
+pub mod WithinLaws

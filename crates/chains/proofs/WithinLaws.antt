@@ -1,0 +1,87 @@
+-- What a program needs of a call: it reads no more words than there are, the buffer keeps its length, and the bytes of
+-- a finished chain stand in it. Assumes nothing.
+use Prim.Native.Nat.{ℕ, _+_, _≤_, _<_}
+use mathlib.Core.Path.{_≡_, sym, ap, _∙_}
+use mathlib.Core.Logic.{_⊎_, inl, inr}
+use mathlib.Core.List.{List}
+use native.Mathlib.Omega.{arith}
+use lib.ListN.{length}
+use Rattle.ump.specs.Packet.{packet}
+use Rattle.ump.proofs.PacketLaws.{packet-length}
+use Rattle.stream.specs.Answers.{badAddress, sent}
+use Rattle.screen.specs.Screen.{goesOn}
+use Rattle.piece.proofs.PieceLaws.{piece-fine}
+use Rattle.chains.specs.declared.Chains.{Chains}
+use Rattle.chains.specs.Step.{partOf}
+use Rattle.chains.specs.Collect.{beside, bufferAfter, bufferWith, chainAt, chainOf, collected, collectedOf}
+use Rattle.chains.specs.Collect.{keptOpen, partAt, pieceOf, refusalOf, share}
+use Rattle.chains.proofs.SortLaws.{chain-low, same-or-not}
+use Rattle.chains.proofs.StepLaws.{part-kept, step-answer, step-within}
+use Rattle.chains.proofs.CollectLaws.{buffer-piece, buffer-same, part-end, part-length, report-beside}
+use Rattle.chains.proofs.CollectLaws.{report-kept}
+use Rattle.chains.proofs.CollectLaws.{report-piece}
+use Rattle.chains.proofs.PartLaws.{length-with}
+
+-- the chain of a piece is one of the 32
+pub piece-low : (s : List ℕ) → refusalOf s ≡ goesOn → chainOf s < 32
+piece-low s e = chain-low (packet s) (inl e)
+
+module _ (cs : Chains) (b s : List ℕ) where
+  -- the part of a piece's chain after it, and that it is as long
+  unfoldable pub own-part : List ℕ
+  own-part = partOf (chainAt (chainOf s) cs) (partAt (chainOf s) b) (pieceOf s)
+
+  pub own-length : refusalOf s ≡ goesOn → length own-part ≡ share b
+  unfolding own-part
+  own-length e =
+      part-kept (chainAt (chainOf s) cs) (partAt (chainOf s) b) (pieceOf s) (piece-fine _ _ _ _ _)
+      ∙ part-length (chainOf s) b (piece-low s e)
+
+  pub buffer-length : length (bufferAfter cs b s) ≡ length b
+  unfolding own-part bufferWith
+  buffer-length = go (same-or-not (refusalOf s) goesOn)
+    where
+      go : (refusalOf s ≡ goesOn) ⊎ (refusalOf s ≡ goesOn → ⊥) → length (bufferAfter cs b s) ≡ length b
+      go (inl e) =
+          ap length (buffer-piece cs b s e) ∙ length-with (chainOf s) own-part b (piece-low s e) (own-length e)
+      go (inr n) = ap length (buffer-same cs b s n)
+
+  -- the words read are the packet's
+  pub reads : collectedOf cs b s .read ≡ length (packet s)
+  unfolding collected keptOpen beside
+  reads = go (same-or-not (refusalOf s) goesOn) (same-or-not (refusalOf s) badAddress)
+    where
+      go : (refusalOf s ≡ goesOn) ⊎ (refusalOf s ≡ goesOn → ⊥)
+          → (refusalOf s ≡ badAddress) ⊎ (refusalOf s ≡ badAddress → ⊥)
+          → collectedOf cs b s .read ≡ length (packet s)
+      go (inl e) f = rw (report-piece cs b s e)
+      go (inr n) (inl e) = rw (report-kept cs b s e)
+      go (inr n) (inr m) = rw (report-beside cs b s n m)
+
+  pub reads-within : collectedOf cs b s .read ≤ length s
+  reads-within = omega (arith, reads, packet-length s)
+
+  -- a chain that is finished was asked about
+  pub finished-asked : collectedOf cs b s .answer ≡ sent → refusalOf s ≡ goesOn
+  unfolding keptOpen beside
+  finished-asked h = go (same-or-not (refusalOf s) goesOn) (same-or-not (refusalOf s) badAddress)
+    where
+      go : (refusalOf s ≡ goesOn) ⊎ (refusalOf s ≡ goesOn → ⊥)
+          → (refusalOf s ≡ badAddress) ⊎ (refusalOf s ≡ badAddress → ⊥)
+          → refusalOf s ≡ goesOn
+      go (inl e) f = e
+      go (inr n) (inl e) = absurd (omega (arith, rw (report-kept cs b s e) at h))
+      go (inr n) (inr m) = rw (report-beside cs b s n m) at h
+
+  -- and its bytes stand within its part
+  pub stands-within : collectedOf cs b s .answer ≡ sent
+      → collectedOf cs b s .start + collectedOf cs b s .length ≤ length b
+  unfolding collected
+  stands-within h =
+      let e = finished-asked h in
+      let k = chainOf s in
+      let c = chainAt k cs in
+      let x = pieceOf s in
+      let r = rw (report-piece cs b s e) at h in
+      let l = step-within c (share b) x (omega (arith, sym (step-answer c (share b) x) ∙ r)) in
+      rw (report-piece cs b s e) (omega (arith, l, part-end k (length b) (piece-low s e)))
