@@ -30,6 +30,10 @@ places n = placesIn n n
 abbrev pub decimal : ℕ → List ℕ
 decimal n = digits 10 (places n) n
 
+-- RULES 10.4 and 13.3: a number in decimal, with one more character after it
+unfoldable pub numberThen : ℕ → ℕ → List ℕ
+numberThen end n = decimal n ++ (end ∷ [])
+
 -- RULES 10.2: a word in hex, always eight digits
 abbrev pub hex : ℕ → List ℕ
 hex w = digits 16 8 w

@@ -1,17 +1,23 @@
 // Lines of text. A line of the listing: the answer, the words read, a place where there is one, and each
-// word sent in upper-case hex. A line of the panel: a channel with keys down, and a lamp for each key.
+// word sent in upper-case hex. A line of the panel: a channel with keys down, and a lamp for each key. The
+// lines of a rescue: a packet that is dropped, the ticks between two stamps, and left-over bytes.
 //
-// `line` and `lamps` have no `requires`. They say what they answer and what the lent buffer holds after
-// them, on every input: a line that does not fit is not begun.
+// No public function has a `requires`. Each says what it answers and what the lent buffer holds after
+// it, on every input: a line that does not fit is not begun.
 mod panel;
+mod rescue;
 
 pub use panel::lamps;
+pub use rescue::bytes_line;
+pub use rescue::drop_line;
+pub use rescue::number_line;
+pub use rescue::ticks_line;
 ghost use mathlib.Core.Path.{_≡_};
 ghost use Prim.Native.Nat.{_+_, _*_, _-_, _<_, _≤_};
 ghost use lib.Dec.{leb};
 ghost use lib.ListN.{length};
 ghost use lib.Seq.{sets};
-ghost use Rattle.text.specs.Lines.{digits, hexFields, lineOf, placeAfter, placeField, withRow};
+ghost use Rattle.text.specs.Lines.{digits, hexFields, lineOf, numberThen, placeAfter, placeField, withRow};
 ghost use Rattle.text.specs.Lines;
 
 const SPACE: u8 = b' ';
@@ -91,6 +97,18 @@ fn is_room(len: usize, to: usize, head: usize, words: usize) -> bool
         return false;
     }
     words <= (room - head) / 9
+}
+
+// Stores a number and the character after it, and answers the place after them.
+fn put_number(n: u64, out: &mut [u8], to: usize, end: u8) -> usize
+    requires { ⌜ to + length (numberThen end n) ≤ length (now out) ⌝ }
+    ensures place { λ r. ⌜ r ≡ to + length (numberThen end n) ⌝ }
+    ensures text { λ _. ⌜ now (out .exit) ≡ sets (now (out .entry)) to (numberThen end n) ⌝ }
+{
+    let digits = places(n);
+    spell(n, 10, digits, out, to);
+    out[to + digits] = end;
+    to + digits + 1
 }
 
 // How many bytes a place takes with the space before it; none has none.
