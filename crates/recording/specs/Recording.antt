@@ -1,6 +1,6 @@
 -- Recordings (RULES 13; 02 M-109): what stands before the words, what is kept of them, and what is said.
 use Prim.Native.Nat.{ℕ, _+_, _-_, _%_, _^_, _/_}
-use mathlib.Core.Bool.{Bool, cond, _&&_}
+use mathlib.Core.Bool.{Bool, true, false, cond, _&&_}
 use mathlib.Core.List.{List, [], _∷_, _++_}
 use lib.Dec.{eqb}
 use lib.ListN.{getD, length}
@@ -90,6 +90,14 @@ cutLine place left = cond (eqb (left / 4) 0) Nothing (Drop place cutPacket (left
 
 unfoldable pub leftLine : ℕ → Line
 leftLine left = cond (eqb (left % 4) 0) Nothing (Bytes (left % 4))
+
+-- whether anything is said
+unfoldable pub isSaid : Line → Bool
+isSaid Nothing = false
+isSaid (Drop place answer count bad) = true
+isSaid (Ticks n) = true
+isSaid (Bytes n) = true
+isSaid (Answer n) = true
 
 -- a line as it is written; nothing is written where nothing is said
 unfoldable pub textOf : Line → List ℕ

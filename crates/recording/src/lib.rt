@@ -15,9 +15,9 @@ use ump::word_at;
 ghost use mathlib.Core.Path.{_≡_};
 ghost use lib.ListN.{getD};
 ghost use Rattle.text.specs.Lines.{placeAfter, withRow};
-ghost use Rattle.recording.specs.Recording.{cutLine, header, headerAnswer, isStamp, leftLine, lineKept, lineOf};
-ghost use Rattle.recording.specs.Recording.{noByte, passes, pastAfter, sameAt, stampAfter, stampOf, start, textOf};
-ghost use Rattle.recording.specs.Recording.{ticksBetween};
+ghost use Rattle.recording.specs.Recording.{cutLine, header, headerAnswer, isSaid, isStamp, leftLine};
+ghost use Rattle.recording.specs.Recording.{lineKept, lineOf, noByte, passes, pastAfter, stampAfter, stampOf, start};
+ghost use Rattle.recording.specs.Recording.{textOf, ticksBetween};
 
 // How many bytes the header has.
 pub const HEADER_BYTES: usize = 5;
@@ -77,7 +77,9 @@ fn wide(b: u8) -> u32
 pub fn header_answer(bytes: &[u8]) -> u32
     ensures { λ r. ⌜ r ≡ headerAnswer (now (bytes .entry)) ⌝ }
 {
-    let marked = (byte_at(bytes, 0) == 0x55) & (byte_at(bytes, 1) == 0x50) & (byte_at(bytes, 2) == 0x4B);
+    let marked = (byte_at(bytes, 0) == 0x55)
+        & (byte_at(bytes, 1) == 0x50)
+        & (byte_at(bytes, 2) == 0x4B);
     let versioned = (byte_at(bytes, 3) == 0) & (byte_at(bytes, 4) == 1);
     if marked {
         if versioned { SENT } else { WRONG_VERSION }
@@ -134,11 +136,7 @@ fn stamp_after(stamp: Stamp, w: u32) -> Stamp
     ensures { λ r. ⌜ r ≡ stampAfter stamp w ⌝ }
 {
     let later = stamp_of(w);
-    if is_stamp(w) {
-        Stamp::At(later)
-    } else {
-        stamp
-    }
+    if is_stamp(w) { Stamp::At(later) } else { stamp }
 }
 
 impl Past {
@@ -202,6 +200,19 @@ impl Line {
         }
     }
 
+    // Whether anything is said.
+    pub fn is_said(self) -> bool
+        ensures { λ r. ⌜ r ≡ isSaid self ⌝ }
+    {
+        match self {
+            Line::Nothing => false,
+            Line::Drop(_, _, _, _) => true,
+            Line::Ticks(_) => true,
+            Line::Bytes(_) => true,
+            Line::Answer(_) => true,
+        }
+    }
+
     // Writes the line from a place on and answers the place after it, or, where it does not fit, writes
     // nothing and answers the place.
     pub fn put(self, text: &mut [u8], to: usize) -> usize
@@ -210,7 +221,14 @@ impl Line {
     {
         match self {
             Line::Nothing => to,
-            Line::Drop(place, answer, count, bad) => text::drop_line(place, answer, count, bad, text, to),
+            Line::Drop(place, answer, count, bad) => text::drop_line(
+                place,
+                answer,
+                count,
+                bad,
+                text,
+                to,
+            ),
             Line::Ticks(n) => text::ticks_line(n as u64, text, to),
             Line::Bytes(n) => text::bytes_line(n as u64, text, to),
             Line::Answer(n) => text::number_line(n as u64, text, to),
