@@ -31,6 +31,8 @@ enum {
     QUERNBRAE_NO_ROOM = 9,        /* the output cannot hold what the packet sends (3.4) */
     QUERNBRAE_NO_TABLE = 10,      /* the table has more or fewer than 256 records */
     QUERNBRAE_NOT_YOURS = 13,     /* of a host: the group is not its own (2.6) */
+    QUERNBRAE_WRONG_MARK = 19,    /* of a recording: it does not begin with the mark (13.1) */
+    QUERNBRAE_WRONG_VERSION = 20, /* of a recording: its version is not 1 (13.1) */
     QUERNBRAE_NOT_FOR_ROOM = 23,  /* in the beginners' room: good, but not on its list (2.5) */
     QUERNBRAE_OUT_OF_RANGE = 24   /* no such group, channel or host: of a question, mark, giving or replay (5, 11) */
 };
