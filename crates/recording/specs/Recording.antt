@@ -1,4 +1,4 @@
--- Recordings (RULES 13; 02 M-109): what stands before the words, what is kept of them, and what is said.
+-- Recordings (RULES 15; 02 M-109): what stands before the words, what is kept of them, and what is said.
 use Prim.Native.Nat.{ℕ, _+_, _-_, _%_, _^_, _/_}
 use mathlib.Core.Bool.{Bool, true, false, cond, _&&_}
 use mathlib.Core.List.{List, [], _∷_, _++_}

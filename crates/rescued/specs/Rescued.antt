@@ -1,4 +1,4 @@
--- What a rescue makes of a whole recording (RULES 13; 02 M-109), by definitions over its pieces that know no run and no
+-- What a rescue makes of a whole recording (RULES 15; 02 M-109), by definitions over its pieces that know no run and no
 -- buffer, and what is claimed of them.
 use Prim.Native.Nat.{ℕ, _+_, _*_, _-_, _%_, _^_, _<_, _≤_}
 use mathlib.Core.Path.{_≡_}

@@ -1,4 +1,4 @@
--- A rescue, packet by packet (RULES 13; 02 M-109): a run that keeps, and a run that tells.
+-- A rescue, packet by packet (RULES 15; 02 M-109): a run that keeps, and a run that tells.
 use Prim.Native.Nat.{ℕ, _+_}
 use mathlib.Core.Bool.{cond}
 use mathlib.Core.List.{List}

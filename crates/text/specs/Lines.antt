@@ -30,7 +30,7 @@ places n = placesIn n n
 abbrev pub decimal : ℕ → List ℕ
 decimal n = digits 10 (places n) n
 
--- RULES 10.4 and 13.3: a number in decimal, with one more character after it
+-- RULES 10.4 and 15.3: a number in decimal, with one more character after it
 unfoldable pub numberThen : ℕ → ℕ → List ℕ
 numberThen end n = decimal n ++ (end ∷ [])
 

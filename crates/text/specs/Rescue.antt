@@ -1,4 +1,4 @@
--- RULES 13.3: the lines of a rescue, in ASCII (02 M-109).
+-- RULES 15.3: the lines of a rescue, in ASCII (02 M-109).
 use Prim.Native.Nat.{ℕ}
 use mathlib.Core.List.{List, [], _∷_, _++_}
 use Rattle.text.specs.Lines.{lineOf, numberThen}
