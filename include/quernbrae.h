@@ -33,11 +33,13 @@ enum {
     QUERNBRAE_DROPPED = 11,       /* from a cable: a byte or a message is dropped (12.2) */
     QUERNBRAE_CUT_OFF = 12,       /* from a cable: an exclusive is cut off, and its closing packet sent (12.2) */
     QUERNBRAE_NOT_YOURS = 13,     /* of a host: the group is not its own (2.6) */
-    QUERNBRAE_NO_COUNTERPART = 14, /* of a maker identity: it has no such form in the other kind (12) */
+    QUERNBRAE_NO_COUNTERPART = 14, /* of a maker identity: it has no such form in the other kind (13) */
     QUERNBRAE_OUT_OF_TURN = 15,      /* of a chain: the packet does not go on where it stands; an open one is dropped */
-    QUERNBRAE_TOO_MANY_PACKETS = 16, /* of a chain: the 33rd packet of Flex Data; it is dropped (13.3) */
-    QUERNBRAE_BAD_ADDRESS = 17,      /* Flex Data for address 2 or 3; the chain stays (13.3) */
-    QUERNBRAE_TOO_LONG = 18,         /* of a chain: the packet does not fit in its part; it is dropped (13.3) */
+    QUERNBRAE_TOO_MANY_PACKETS = 16, /* of a chain: the 33rd packet of Flex Data; it is dropped (14.3) */
+    QUERNBRAE_BAD_ADDRESS = 17,      /* Flex Data for address 2 or 3; the chain stays (14.3) */
+    QUERNBRAE_TOO_LONG = 18,         /* of a chain: the packet does not fit in its part; it is dropped (14.3) */
+    QUERNBRAE_WRONG_MARK = 19,    /* of a recording: it does not begin with the mark (15.1) */
+    QUERNBRAE_WRONG_VERSION = 20, /* of a recording: its version is not 1 (15.1) */
     QUERNBRAE_NOT_FOR_ROOM = 23,  /* in the beginners' room: good, but not on its list (2.5) */
     QUERNBRAE_OUT_OF_RANGE = 24,  /* no such group, channel or host: of a question, mark, giving or replay (5, 11), and
                                    * of a cable (12) */

@@ -1,1 +1,2 @@
 pub mod ReaderOwns
+pub mod FrontLaws

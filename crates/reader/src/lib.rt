@@ -44,3 +44,16 @@ pub fn first_packet_end(words: &[u32]) -> usize
     let r = moved_on(read_from(words));
     r.at
 }
+
+// The packet at a place of the words, or an empty part where no whole packet is left there. Whoever calls
+// it needs nothing of the reader either.
+pub fn packet_from(words: &[u32], at: usize) -> &[u32]
+    ensures { λ p. ⌜ now p ≡ Packet.packet (drop at (now (words .entry))) ⌝ }
+{
+    if words.len() < at {
+        return &words[0..0];
+    }
+    let n = first_packet_end(&words[at..]);
+    let end = at + n;
+    &words[at..end]
+}

@@ -16,18 +16,9 @@ use Rattle.keys.specs.declared.Lowest.{Lowest}
 use Rattle.keys.specs.declared.Lowest.the-variants.{None, Key}
 use Rattle.keys.specs.Keys.{down, downCount, leastDown, tally}
 use Rattle.keys.proofs.Bit.{Found, found}
-use Rattle.text.specs.Lines.{decimal, digits, placeAfter, places, withRow}
+use Rattle.text.specs.Lines.{placeAfter, places, withRow}
 use Rattle.text.specs.Lamps.{channelLine, lamp, lampRow, lampsBelow, lampsLine, lineFrom, numberField}
-use Rattle.text.proofs.LineLaws.{digits-length, few}
-
-pub number-length : (n : ℕ) → length (numberField n) ≡ places n + 1
-unfolding numberField
-number-length n = omega (arith, length-append (decimal n) (32 ∷ []), digits-length 10 (places n) n)
-
-pub number-stored : (l : List ℕ) (to n k : ℕ) → k ≡ places n
-    → set (sets l to (digits 10 k n)) (to + k) 32 ≡ sets l to (numberField n)
-unfolding numberField
-number-stored l to n k e = rw (e, sets-append l to (decimal n) (32 ∷ []), digits-length 10 (places n) n)
+use Rattle.text.proofs.LineLaws.{few, none-put, number-length}
 
 pub lamps-length : (keys : Keys) (n : ℕ) → length (lampsBelow keys n) ≡ n
 unfolding lampsBelow
@@ -79,10 +70,10 @@ module _ (group channel : ℕ) (keys : Keys) (lowest : ℕ) where
   pub line-length : length (lampsLine group channel keys lowest)
       ≡ places group + places channel + (places (downCount keys) + places lowest) + 133
   line-length =
-      let p = number-length group in
-      let q = number-length channel in
-      let s = number-length (downCount keys) in
-      let t = number-length lowest in
+      let p = number-length 32 group in
+      let q = number-length 32 channel in
+      let s = number-length 32 (downCount keys) in
+      let t = number-length 32 lowest in
       omega (arith, line-long)
 
   -- the whole line, part by part: the place and the buffer after each
@@ -114,10 +105,6 @@ module _ (group channel : ℕ) (keys : Keys) (lowest : ℕ) where
         two,
         sets-append l to g c,
       ))
-
--- an empty row changes nothing
-pub none-put : (l : List ℕ) (to : ℕ) → (to ≡ placeAfter l to []) × (l ≡ withRow l to [])
-none-put l to = rw (le-leb 0 (length l - to) (omega arith)) (omega arith, refl)
 
 -- a channel with no key down has no line, and nothing is put in its place
 pub no-line : (group channel : ℕ) (keys : Keys) (lowest : Lowest) (l : List ℕ) (to : ℕ)

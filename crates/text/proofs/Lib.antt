@@ -1,3 +1,4 @@
 pub mod LineLaws
 pub mod LampLaws
 pub mod MessageLaws
+pub mod RescueLaws

@@ -11,7 +11,8 @@ use lib.Dec.{eqb, leb, ltb}
 use lib.ListN.{length, length-append, getD, set, take}
 use lib.Seq.{length-take-le, sets, take-suc}
 use borrow.Author.Tests.{eqb-false, le-leb, le-ltb, leb-false, leb-true, lt-leb, lt-ltb, ltb-false, ne-eqb}
-use Rattle.text.specs.Lines.{decimal, digits, fieldsOf, glyph, hexFields, lineOf, placeField, places, placesIn}
+use Rattle.text.specs.Lines.{decimal, digits, fieldsOf, glyph, hexFields, lineOf, numberThen, placeAfter, placeField}
+use Rattle.text.specs.Lines.{places, placesIn, withRow}
 use Rattle.ground.proofs.Cases.{by-bool}
 use Rattle.ground.proofs.Stores.{set-sets, sets-append}
 
@@ -19,6 +20,20 @@ pub digits-length : (b k n : ℕ) → length (digits b k n) ≡ k
 unfolding digits
 digits-length b zero n = refl
 digits-length b (suc k) n = ap suc (digits-length b k n)
+
+-- a number and the character after it: how many bytes they have, and how they are stored
+pub number-length : (end n : ℕ) → length (numberThen end n) ≡ places n + 1
+unfolding numberThen
+number-length end n = omega (arith, length-append (decimal n) (end ∷ []), digits-length 10 (places n) n)
+
+pub number-stored : (l : List ℕ) (to end n k : ℕ) → k ≡ places n
+    → set (sets l to (digits 10 k n)) (to + k) end ≡ sets l to (numberThen end n)
+unfolding numberThen
+number-stored l to end n k e = rw (e, sets-append l to (decimal n) (end ∷ []), digits-length 10 (places n) n)
+
+-- an empty row changes nothing
+pub none-put : (l : List ℕ) (to : ℕ) → (to ≡ placeAfter l to []) × (l ≡ withRow l to [])
+none-put l to = rw (le-leb 0 (length l - to) (omega arith)) (omega arith, refl)
 
 -- n itself is enough to count its places by
 places-enough : (f g n : ℕ) → n ≤ f → n ≤ g → placesIn f n ≡ placesIn g n

@@ -6,7 +6,7 @@ use Rattle.keys.specs.declared.Keys.{Keys}
 use Rattle.keys.specs.declared.Lowest.{Lowest}
 use Rattle.keys.specs.declared.Lowest.the-variants.{None, Key}
 use Rattle.keys.specs.Keys.{down, downCount, leastDown}
-use Rattle.text.specs.Lines.{decimal}
+use Rattle.text.specs.Lines.{numberThen}
 
 -- RULES 10.4: the lamp of a key: # (35) where it is down, and else a full stop (46)
 abbrev pub lamp : Bool → ℕ
@@ -22,8 +22,8 @@ abbrev pub lampRow : Keys → List ℕ
 lampRow keys = lampsBelow keys 128
 
 -- RULES 10.4: a number in decimal, with a space (32) after it
-unfoldable pub numberField : ℕ → List ℕ
-numberField n = decimal n ++ (32 ∷ [])
+abbrev pub numberField : ℕ → List ℕ
+numberField n = numberThen 32 n
 
 -- RULES 10.4: the line of a channel by its lowest key, with the end of the line (10)
 unfoldable pub lampsLine : ℕ → ℕ → Keys → ℕ → List ℕ

@@ -1,3 +1,4 @@
 pub mod Lines
 pub mod Lamps
 pub mod Messages
+pub mod Rescue

@@ -30,6 +30,10 @@ places n = placesIn n n
 abbrev pub decimal : ℕ → List ℕ
 decimal n = digits 10 (places n) n
 
+-- RULES 10.4 and 15.3: a number in decimal, with one more character after it
+unfoldable pub numberThen : ℕ → ℕ → List ℕ
+numberThen end n = decimal n ++ (end ∷ [])
+
 -- RULES 10.2 and 14.5: each number in hex of k digits, with a space (32) before it
 unfoldable pub fieldsOf : ℕ → List ℕ → List ℕ
 fieldsOf k [] = []

@@ -1,13 +1,19 @@
 // Lines of text. A line of the listing: the answer, the words read, a place where there is one, and each
-// word sent in upper-case hex. A line of the panel: a channel with keys down, and a lamp for each key.
-// A line of a whole message, and one of a message that is dropped.
+// word sent in upper-case hex. A line of the panel: a channel with keys down, and a lamp for each key. A
+// line of a whole message, and one of a message that is dropped. The lines of a rescue: a packet that is
+// dropped, the ticks between two stamps, and left-over bytes.
 //
 // No public function has a `requires`. Each says what it answers and what the lent buffer holds after
 // it, on every input: a line that does not fit is not begun.
 mod panel;
+mod rescue;
 mod whole;
 
 pub use panel::lamps;
+pub use rescue::bytes_line;
+pub use rescue::drop_line;
+pub use rescue::number_line;
+pub use rescue::ticks_line;
 pub use whole::dropped;
 pub use whole::message;
 ghost use mathlib.Core.Path.{_≡_};
@@ -15,7 +21,7 @@ ghost use Prim.Native.Nat.{_+_, _*_, _-_, _<_, _≤_};
 ghost use lib.Dec.{leb};
 ghost use lib.ListN.{length};
 ghost use lib.Seq.{sets};
-ghost use Rattle.text.specs.Lines.{digits, hexFields, lineOf, placeAfter, placeField, withRow};
+ghost use Rattle.text.specs.Lines.{digits, hexFields, lineOf, numberThen, placeAfter, placeField, withRow};
 ghost use Rattle.text.specs.Lines;
 
 const SPACE: u8 = b' ';
@@ -103,6 +109,18 @@ fn is_room(len: usize, to: usize, head: usize, words: usize) -> bool
     ensures { λ r. ⌜ r ≡ leb (head + 9 * words) (len - to) ⌝ }
 {
     has_room(len, to, head, words, 9)
+}
+
+// Stores a number and the character after it, and answers the place after them.
+fn put_number(n: u64, out: &mut [u8], to: usize, end: u8) -> usize
+    requires { ⌜ to + length (numberThen end n) ≤ length (now out) ⌝ }
+    ensures place { λ r. ⌜ r ≡ to + length (numberThen end n) ⌝ }
+    ensures text { λ _. ⌜ now (out .exit) ≡ sets (now (out .entry)) to (numberThen end n) ⌝ }
+{
+    let digits = places(n);
+    spell(n, 10, digits, out, to);
+    out[to + digits] = end;
+    to + digits + 1
 }
 
 // How many bytes a place takes with the space before it; none has none.

@@ -4,7 +4,7 @@ use crate::NEWLINE;
 use crate::SPACE;
 use crate::is_room;
 use crate::places;
-use crate::spell;
+use crate::put_number;
 use keys::Keys;
 use keys::Lowest;
 ghost use mathlib.Core.Path.{_≡_};
@@ -12,7 +12,7 @@ ghost use Prim.Native.Nat.{_+_, _≤_};
 ghost use lib.ListN.{length};
 ghost use lib.Seq.{sets};
 ghost use Rattle.text.specs.Lines.{placeAfter, withRow};
-ghost use Rattle.text.specs.Lamps.{channelLine, lampRow, lampsLine, numberField};
+ghost use Rattle.text.specs.Lamps.{channelLine, lampRow, lampsLine};
 ghost use Rattle.text.specs.Lamps;
 
 // How many keys there are, each with a lamp.
@@ -39,18 +39,6 @@ fn put_lamps(keys: Keys, out: &mut [u8], to: usize)
     }
 }
 
-// Stores a number and the space after it, and answers the place after them.
-fn put_number(n: u64, out: &mut [u8], to: usize) -> usize
-    requires { ⌜ to + length (numberField n) ≤ length (now out) ⌝ }
-    ensures place { λ r. ⌜ r ≡ to + length (numberField n) ⌝ }
-    ensures text { λ _. ⌜ now (out .exit) ≡ sets (now (out .entry)) to (numberField n) ⌝ }
-{
-    let digits = places(n);
-    spell(n, 10, digits, out, to);
-    out[to + digits] = SPACE;
-    to + digits + 1
-}
-
 // Stores the line of a channel whose lowest key is given, and answers the place after it.
 fn put_lamps_line(
     group: u8,
@@ -66,10 +54,10 @@ fn put_lamps_line(
         ≡ sets (now (out .entry)) to (lampsLine group channel keys lowest) ⌝ }
 {
     let count = keys.count();
-    let second = put_number(group as u64, out, to);
-    let third = put_number(channel as u64, out, second);
-    let fourth = put_number(count as u64, out, third);
-    let row = put_number(lowest as u64, out, fourth);
+    let second = put_number(group as u64, out, to, SPACE);
+    let third = put_number(channel as u64, out, second, SPACE);
+    let fourth = put_number(count as u64, out, third, SPACE);
+    let row = put_number(lowest as u64, out, fourth, SPACE);
     put_lamps(keys, out, row);
     out[row + LAMPS] = NEWLINE;
     row + LAMPS + 1

@@ -8,7 +8,7 @@ use borrow.Author.Needs.{needs}
 use denote.Ref.{now}
 use lib.ListN.{drop, length, length-drop, length-take, take}
 use lib.Seq.{length-take-le}
-use Rattle.text.proofs.LampLaws.{none-put}
+use Rattle.text.proofs.LineLaws.{none-put}
 use Rattle.gather.proofs.LineLaws.{dropped-line, finished-line, no-line}
 use Rattle.gather.proofs.GatherLaws.{rest-part}
 use Rattle.gather.proofs.put_line.Statement.{statement}
