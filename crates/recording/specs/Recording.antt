@@ -52,7 +52,7 @@ isStamp w = eqb (messageType w) 0 && eqb (status w) 2
 abbrev pub stampOf : ℕ → ℕ
 stampOf w = bits 0 16 w
 
--- the later stamp less the earlier, counted round at 65,536
+-- how far a stamp lies behind the one before it, where 0 comes after 65,535
 abbrev pub ticksBetween : ℕ → ℕ → ℕ
 ticksBetween earlier later = (later + 2 ^ 16 - earlier) % 2 ^ 16
 
