@@ -399,3 +399,7 @@ times2-is b k (inf s) z D = absurd (D .value)
 times2-is b k (fin s m e) z D =
     let A = own b k s m e z D in
     ap (signed s) (ap (λ (n : ℕ). n / down e) (A .value) ∙ mul-div-cancel (A .size) (down-pos e)) ∙ sym (A .whole)
+
+-- +0 is 0
+pub none-exact : (b k : ℕ) → Dyadic b k (fin false 0 (pos 0)) (pos 0)
+none-exact b k = made b k _ _ false 0 (refl, zero-mul (2 ^ k)) (pow-pos b) refl

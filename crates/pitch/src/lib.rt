@@ -51,7 +51,8 @@ pub fn pitch(base: Base, bend: u32, units: u8) -> f64
 
 // The pitch together with what it was counted from.
 pub fn show(base: Base, bend: u32, units: u8) -> Shown
-    ensures { λ r. ⌜ r ≡ shownAs base (nearest 31 (pitchOf base bend units)) ⌝ }
+    ensures shown { λ r. ⌜ r ≡ shownAs base (nearest 31 (pitchOf base bend units)) ⌝ }
+    ensures exact { λ r. ⌜ Dyadic 42 31 (floatOf r) (pitchOf base bend units) ⌝ }
 {
     let p = pitch(base, bend, units);
     match base {

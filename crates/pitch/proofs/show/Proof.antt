@@ -13,13 +13,19 @@ cased : (b k : Base) (x y : Float) → x ≡ y → b ≡ k → shownAs k x ≡ s
 cased b k x y e f = ap (shownAs k) e ∙ sym (ap (λ (a : Base). shownAs a y) f)
 
 returns : tie.Need-returns
-returns c = cased _ _ _ _ (c .before .before .pitch .ensures .0) (c .enum-told .given .1)
+returns c =
+    let p = c .before .before .pitch .ensures in
+    (cased _ _ _ _ (p .0) (c .enum-told .given .1), p .1)
 
 returns-2 : tie.Need-returns-2
-returns-2 c = cased _ _ _ _ (c .before .before .pitch .ensures .0) (c .enum-told2 .given .1)
+returns-2 c =
+    let p = c .before .before .pitch .ensures in
+    (cased _ _ _ _ (p .0) (c .enum-told2 .given .1), p .1)
 
 returns-3 : tie.Need-returns-3
-returns-3 c = cased _ _ _ _ (c .before .before .pitch .ensures .0) (c .enum-told3 .given .1)
+returns-3 c =
+    let p = c .before .before .pitch .ensures in
+    (cased _ _ _ _ (p .0) (c .enum-told3 .given .1), p .1)
 
 pub show-spec : {M : Type 1} → statement M
 show-spec =
