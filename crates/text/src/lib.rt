@@ -1,11 +1,15 @@
 // Lines of text. A line of the listing: the answer, the words read, a place where there is one, and each
 // word sent in upper-case hex. A line of the panel: a channel with keys down, and a lamp for each key.
 //
-// `line` and `lamps` have no `requires`. They say what they answer and what the lent buffer holds after
-// them, on every input: a line that does not fit is not begun.
+// `line` and `lamps` have no `requires`, and neither have `row` and `number`, of which other lines are
+// made. They say what they answer and what the lent buffer holds after them, on every input: what does
+// not fit is not begun.
 mod panel;
+mod rows;
 
 pub use panel::lamps;
+pub use rows::number;
+pub use rows::row;
 ghost use mathlib.Core.Path.{_≡_};
 ghost use Prim.Native.Nat.{_+_, _*_, _-_, _<_, _≤_};
 ghost use lib.Dec.{leb};
