@@ -125,15 +125,15 @@ read-back (suc k) j m r n e f h =
     choose (λ (l : List ℕ). readAfter n l * 2 ^ 31 ≡ (n * 2 ^ 31 + r) * 10 ^ length l) (eqb r 0)
     (λ z. omega (arith, eqb-true r 0 z))
     (λ z.
-      let q = r * 10 / 2 ^ 31 in
-      let d : 48 + q - 48 ≡ q = omega arith in
-      let l = length (fractionDigits k (r * 10 % 2 ^ 31)) in
-      let on : (n * 10 + q) * 2 ^ 31 + r * 10 % 2 ^ 31 ≡ (n * 2 ^ 31 + r) * 10 = omega arith in
-      let t : (n * 2 ^ 31 + r) * 10 * 10 ^ l ≡ (n * 2 ^ 31 + r) * 10 ^ suc l =
-      mul-assoc (n * 2 ^ 31 + r) 10 (10 ^ l) ∙ ap (λ (x : ℕ). (n * 2 ^ 31 + r) * x) (mul-comm 10 (10 ^ l) ∙ sym (pow-suc 10 l)) in
-      ap (λ (x : ℕ). readAfter (n * 10 + x) (fractionDigits k (r * 10 % 2 ^ 31)) * 2 ^ 31) d
-      ∙ read-back k (suc j) (m * 5 - q * 2 ^ k) (r * 10 % 2 ^ 31) (n * 10 + q) (omega arith) (halved k j m r e f) (omega arith)
-      ∙ ap (λ (x : ℕ). x * 10 ^ l) on ∙ t)
+    let q = r * 10 / 2 ^ 31 in
+    let d : 48 + q - 48 ≡ q = omega arith in
+    let l = length (fractionDigits k (r * 10 % 2 ^ 31)) in
+    let on : (n * 10 + q) * 2 ^ 31 + r * 10 % 2 ^ 31 ≡ (n * 2 ^ 31 + r) * 10 = omega arith in
+    let t : (n * 2 ^ 31 + r) * 10 * 10 ^ l ≡ (n * 2 ^ 31 + r) * 10 ^ suc l =
+    mul-assoc (n * 2 ^ 31 + r) 10 (10 ^ l) ∙ ap (λ (x : ℕ). (n * 2 ^ 31 + r) * x) (mul-comm 10 (10 ^ l) ∙ sym (pow-suc 10 l)) in
+    ap (λ (x : ℕ). readAfter (n * 10 + x) (fractionDigits k (r * 10 % 2 ^ 31)) * 2 ^ 31) d
+    ∙ read-back k (suc j) (m * 5 - q * 2 ^ k) (r * 10 % 2 ^ 31) (n * 10 + q) (omega arith) (halved k j m r e f) (omega arith)
+    ∙ ap (λ (x : ℕ). x * 10 ^ l) on ∙ t)
 
 pub proved-exactly : Exactly
 proved-exactly r h =

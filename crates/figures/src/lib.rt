@@ -72,5 +72,4 @@ pub fn exact(size: u64, out: &mut [u8], to: usize) -> usize
 // A claim, with no code: the digits behind the point are the fraction, with nothing left over.
 pub fn exactly()
     ensures { λ _. ⌜ Exactly ⌝ }
-{
-}
+{}

@@ -374,6 +374,10 @@ pub nearest-value : (k n : ℕ) → n < 2 ^ 53 → k ≤ 1074 → HasValue (near
 unfolding nearest
 nearest-value k n h K = at-power binary64 false n k h K
 
+pub below-value : (k n : ℕ) → suc n < 2 ^ 53 → k ≤ 1074 → HasValue (nearest k (negsuc n)) true (suc n) (2 ^ k)
+unfolding nearest
+below-value k n h K = at-power binary64 true (suc n) k h K
+
 abs-signed : (s : Bool) (a : ℕ) → natAbs (signed s a) ≡ a
 abs-signed false a = refl
 abs-signed true zero = refl
