@@ -9,10 +9,12 @@ use argument::Number;
 use flow::Table;
 use libc::ENAMETOOLONG;
 
-// What a program takes: channels to mark, one channel by two arguments, or nothing.
+// What a program takes: channels to mark, one channel by two arguments, the same and a range by a third,
+// or nothing.
 pub enum Takes {
     Channels,
     OneChannel,
+    ChannelAndRange,
     Nothing,
 }
 
@@ -29,7 +31,13 @@ pub struct Chosen {
     pub channel: u8,
 }
 
-// A group or a channel by an argument, which is 0 where that is wrong or missing.
+// The same with the units of a range.
+pub struct ChosenRange {
+    pub chosen: Chosen,
+    pub units: u8,
+}
+
+// A group, a channel or the units of a range by an argument, which is 0 where that is wrong or missing.
 struct OneNumber {
     number: u8,
     wrong: bool,
@@ -102,6 +110,9 @@ impl Start {
         match takes {
             Takes::Channels => self.and_channel(name, i),
             Takes::OneChannel => self.and_wrong(name, b": takes GROUP and CHANNEL alone: ", i),
+            Takes::ChannelAndRange => {
+                self.and_wrong(name, b": takes GROUP, CHANNEL and UNITS alone: ", i)
+            }
             Takes::Nothing => self.and_wrong(name, b": takes no arguments: ", i),
         }
     }
@@ -124,18 +135,22 @@ pub fn taken(name: &[u8], takes: Takes) -> Start {
     taken_from(name, takes, 1)
 }
 
-// The group or the channel that an argument names. One that is too long to be shown whole names none.
-fn number_at(i: usize) -> Number {
+// The group or the channel that an argument names, or the units. One that is too long to be shown whole
+// names none.
+fn number_at(i: usize, units: bool) -> Number {
     let mut bytes = [0u8; SHOWN_BYTES];
     let n = os::arg(i, &mut bytes);
-    if os::errno() == 0 {
-        argument::number_in(&bytes[..n])
+    if os::errno() != 0 {
+        return Number::None;
+    }
+    if units {
+        argument::units_in(&bytes[..n])
     } else {
-        Number::None
+        argument::number_in(&bytes[..n])
     }
 }
 
-fn number_taken(name: &[u8], missing: &[u8], what: &[u8], i: usize) -> OneNumber {
+fn number_taken(name: &[u8], missing: &[u8], what: &[u8], i: usize, units: bool) -> OneNumber {
     if os::arg_count() <= i {
         notice::say_wrong(name, missing, b"", false);
         return OneNumber {
@@ -143,7 +158,7 @@ fn number_taken(name: &[u8], missing: &[u8], what: &[u8], i: usize) -> OneNumber
             wrong: true,
         };
     }
-    let number = number_at(i);
+    let number = number_at(i, units);
     match number {
         Number::None => {
             say_wrong(name, what, i);
@@ -159,16 +174,24 @@ fn number_taken(name: &[u8], missing: &[u8], what: &[u8], i: usize) -> OneNumber
     }
 }
 
-// The channel that the two arguments name, by its group and its own number, and a fresh table.
-pub fn channel_chosen(name: &[u8]) -> Chosen {
-    let group = number_taken(name, b": GROUP is missing", b": not a GROUP, 0 to 15: ", 1);
-    let channel = number_taken(
-        name,
-        b": CHANNEL is missing",
-        b": not a CHANNEL, 0 to 15: ",
-        2,
-    );
-    let rest = taken_from(name, Takes::OneChannel, 3);
+// The first argument as a group, and the second as a channel.
+fn group_taken(name: &[u8]) -> OneNumber {
+    let missing = b": GROUP is missing";
+    number_taken(name, missing, b": not a GROUP, 0 to 15: ", 1, false)
+}
+
+fn channel_taken(name: &[u8]) -> OneNumber {
+    let missing = b": CHANNEL is missing";
+    number_taken(name, missing, b": not a CHANNEL, 0 to 15: ", 2, false)
+}
+
+// The third as the units of a range.
+fn units_taken(name: &[u8]) -> OneNumber {
+    let missing = b": UNITS is missing";
+    number_taken(name, missing, b": not UNITS, 0 to 127: ", 3, true)
+}
+
+fn choose(group: OneNumber, channel: OneNumber, rest: Start) -> Chosen {
     let table = rest.table;
     let start = Start {
         table,
@@ -178,5 +201,29 @@ pub fn channel_chosen(name: &[u8]) -> Chosen {
         start,
         group: group.number,
         channel: channel.number,
+    }
+}
+
+// The channel that the two arguments name, by its group and its own number, and a fresh table.
+pub fn channel_chosen(name: &[u8]) -> Chosen {
+    let group = group_taken(name);
+    let channel = channel_taken(name);
+    choose(group, channel, taken_from(name, Takes::OneChannel, 3))
+}
+
+// The channel and the range that the three arguments name.
+pub fn range_chosen(name: &[u8]) -> ChosenRange {
+    let group = group_taken(name);
+    let channel = channel_taken(name);
+    let units = units_taken(name);
+    let rest = taken_from(name, Takes::ChannelAndRange, 4);
+    let table = rest.table;
+    let rest = Start {
+        table,
+        wrong: units.wrong | rest.wrong,
+    };
+    ChosenRange {
+        chosen: choose(group, channel, rest),
+        units: units.number,
     }
 }
