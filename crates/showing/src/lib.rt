@@ -51,7 +51,8 @@ fn counted_all(counts: [u64; SORTS], words: &[u32]) -> [u64; SORTS] {
     while at < words.len() {
         let screened = screen::screen(NEITHER_TYPE, ump::packet_at(words, at));
         let sort = screened.answer as u64 + screened.place as u64;
-        counts = counted(counts, sort as usize);
+        let more = counted(counts, sort as usize);
+        counts = more;
         at += ump::size(words[at]);
     }
     counts
