@@ -49,4 +49,5 @@ turn-spec =
     (λ c. let k = c .before .before .before .before .before .before in k .carry .kept .0 ∙ reading (filling (translating k)) .read-more .kept .0)
     (λ c. filling (translating (c .before .before .before .before .before .before)) .words-of .kept .1 .0)
     (λ c. translating (c .before .before .before .before .before .before) .translate .kept .1 .1 .1 .1 .0)
-    (λ c. translating (c .before .before .before .before .before .before) .translate .kept .1 .1 .1 .1 .1 .0))
+    (λ c. translating (c .before .before .before .before .before .before) .translate .kept .1 .1 .1 .1 .1 .0)
+    (λ c. search needs))
