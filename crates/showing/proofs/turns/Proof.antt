@@ -44,7 +44,10 @@ loop-less c = search needs
 
 -- src/lib.rt:102:5
 loop-again : tie.Need-loop-again Inv-loop μ-loop
-loop-again c = ?
+loop-again c =
+    let t = c .before .before .before .turn in
+    let i = c .before .before .before .before .before .before .before .before .before .before .loop .inv in
+    (t .kept .1 .1 .0 ∙ i .0, t .kept .1 .1 .1 .0 ∙ i .1, t .kept .1 .1 .1 .1 .0 ∙ i .2)
 
 -- src/lib.rt:88:1
 returns : tie.Need-returns Inv-loop μ-loop
