@@ -60,14 +60,20 @@ fn counted_all(counts: [u64; SORTS], words: &[u32]) -> [u64; SORTS] {
 
 // Reads once, hears the whole packets, writes their lines and keeps the bytes that are left.
 fn turn(units: u32, s: State, bytes: &mut [u8], words: &mut [u32], text: &mut [u8]) -> State {
-    let got = ports::read_more(STDIN_FILENO, b"standard input", bytes, s.left, s.waits);
+    let got = ports::read_more(
+        STDIN_FILENO,
+        b"desk: standard input",
+        bytes,
+        s.left,
+        s.waits,
+    );
     let have = got.have;
     let n = wire::words_of(&bytes[..have], words);
     let desk = s.desk;
     let shown = display::show_some(desk, units, &words[..n], text);
     let done = shown.done;
     let read = done.read;
-    let failed = ports::write_fails(STDOUT_FILENO, b"standard output", text, done.written);
+    let failed = ports::write_fails(STDOUT_FILENO, b"desk: standard output", text, done.written);
     let counts = s.counts;
     let counts = counted_all(counts, &words[..read]);
     let left = wire::carry(bytes, 4 * read, have);
