@@ -1,4 +1,4 @@
--- What the desk displays, in ASCII (02 M-110; RULES 15): the notes that sound, from the lowest number on.
+-- What the desk displays, in ASCII (02 M-110; RULES 16): the notes that sound, from the lowest number on.
 use Prim.Native.Nat.{ℕ, zero, suc, _+_, _^_, _<_}
 use mathlib.Core.Path.{_≡_}
 use mathlib.Core.Bool.{Bool, true, false, cond, _&&_}

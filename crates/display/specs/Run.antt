@@ -1,4 +1,4 @@
--- A run of the desk (02 M-110; RULES 15): every packet is heard, and one that changes what is shown has a line.
+-- A run of the desk (02 M-110; RULES 16): every packet is heard, and one that changes what is shown has a line.
 use Prim.Native.Nat.{ℕ, _-_}
 use mathlib.Core.Bool.{cond}
 use mathlib.Core.List.{List, []}
