@@ -1,9 +1,12 @@
-// The arguments of programs: GROUP:CHANNEL, by which one is told that a channel has no fine half, and
-// GROUP or CHANNEL alone.
+// The arguments of programs: GROUP:CHANNEL, by which one is told that a channel has no fine half, GROUP
+// or CHANNEL alone, and the UNITS of a range.
 //
-// `channel_named` and `number_in` have no `requires`. They say which channel and which number a row of
-// bytes names, and that it names none where anything but numbers of at most 15, and between two of them
+// `channel_named`, `number_in` and `units_in` have no `requires`. They say which channel and which number
+// a row of bytes names, and that it names none where anything but numbers of at most 15, and between two of them
 // one colon, stands in it, for every row of bytes.
+mod units;
+
+pub use units::units_in;
 ghost use mathlib.Core.Path.{_≡_};
 ghost use Prim.Native.Nat.{_+_, _*_, _-_, _<_, _≤_};
 ghost use mathlib.Core.Bool.{_&&_};

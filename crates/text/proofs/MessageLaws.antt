@@ -15,12 +15,6 @@ use Rattle.text.specs.Lines.{decimal, digits, fieldsOf, placeAfter, plac
 use Rattle.text.specs.Messages.{droppedLine, exclusiveName, flexName, headOf, messageLine, sortName}
 use Rattle.text.proofs.LineLaws.{digits-length, fields-length, few}
 
--- the loop that stores a row: one more byte
-pub row-more : (l xs : List ℕ) (to i : ℕ) → i < length xs
-    → set (sets l to (take i xs)) (to + i) (getD xs i 0) ≡ sets l to (take (i + 1) xs)
-row-more l xs to i h =
-    rw (add-one i, take-suc xs i 0 h, sets-append l to (take i xs) (getD xs i 0 ∷ []), length-take-le i xs (omega arith))
-
 -- the name of a sort
 pub name-exclusive : (chain : ℕ) → chain < 16 → sortName chain ≡ exclusiveName
 unfolding sortName

@@ -4,9 +4,11 @@
 // dropped, the ticks between two stamps, and left-over bytes.
 //
 // No public function has a `requires`. Each says what it answers and what the lent buffer holds after
-// it, on every input: a line that does not fit is not begun.
+// it, on every input: a line that does not fit is not begun, nor is a row or a number, of which other
+// lines are made.
 mod panel;
 mod rescue;
+mod rows;
 mod whole;
 
 pub use panel::lamps;
@@ -14,6 +16,8 @@ pub use rescue::bytes_line;
 pub use rescue::drop_line;
 pub use rescue::number_line;
 pub use rescue::ticks_line;
+pub use rows::number;
+pub use rows::row;
 pub use whole::dropped;
 pub use whole::message;
 ghost use mathlib.Core.Path.{_≡_};

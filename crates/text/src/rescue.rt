@@ -7,6 +7,7 @@ use crate::line;
 use crate::place_bytes;
 use crate::places;
 use crate::put_number;
+use crate::rows::put_row;
 ghost use mathlib.Core.Path.{_≡_};
 ghost use mathlib.Core.List.{_++_};
 ghost use Prim.Native.Nat.{_+_, _≤_};
@@ -56,18 +57,6 @@ pub fn number_line(n: u64, out: &mut [u8], to: usize) -> usize
     }
 }
 
-// Stores a name of six bytes.
-fn put_name(name: &[u8], out: &mut [u8], to: usize)
-    requires { ⌜ (length (now name) ≡ 6) × (to + 6 ≤ length (now out)) ⌝ }
-    ensures { λ _. ⌜ now (out .exit) ≡ sets (now (out .entry)) to (now (name .entry)) ⌝ }
-{
-    let mut i: usize = 0;
-    while i < NAME_BYTES {
-        out[to + i] = name[i];
-        i += 1;
-    }
-}
-
 // Writes a name of six bytes and a number, in the same way.
 fn named_line(name: &[u8], n: u64, out: &mut [u8], to: usize) -> usize
     requires { ⌜ length (now name) ≡ 6 ⌝ }
@@ -75,7 +64,7 @@ fn named_line(name: &[u8], n: u64, out: &mut [u8], to: usize) -> usize
     ensures text { λ _. ⌜ now (out .exit) ≡ withRow (now (out .entry)) to (now (name .entry) ++ numberLine n) ⌝ }
 {
     if is_room(out.len(), to, NAME_BYTES + places(n) + 1, 0) {
-        put_name(name, out, to);
+        put_row(name, out, to);
         number_line(n, out, to + NAME_BYTES)
     } else {
         to

@@ -4,6 +4,7 @@ use crate::NEWLINE;
 use crate::SPACE;
 use crate::has_room;
 use crate::places;
+use crate::rows::put_row;
 use crate::spell;
 ghost use mathlib.Core.Path.{_≡_};
 ghost use Prim.Native.Nat.{_+_, _*_, _≤_};
@@ -15,18 +16,6 @@ ghost use Rattle.text.specs.Messages.{droppedLine, headOf, messageLine, 
 
 // How many groups there are, and so chains of exclusives.
 const GROUPS: usize = 16;
-
-// Stores a row of bytes.
-fn put_row(row: &[u8], out: &mut [u8], to: usize)
-    requires { ⌜ to + length (now row) ≤ length (now out) ⌝ }
-    ensures { λ _. ⌜ now (out .exit) ≡ sets (now (out .entry)) to (now (row .entry)) ⌝ }
-{
-    let mut i = 0;
-    while i < row.len() {
-        out[to + i] = row[i];
-        i += 1;
-    }
-}
 
 // How many bytes the name of a chain's sort has.
 fn sort_bytes(chain: usize) -> usize

@@ -46,9 +46,9 @@ returns c =
     let p = c .before .before .before .before .before .before in
     let o = p .before .before .before in
     let a = entry o .args in
-    two-put (now (a .out)) _ _ (now (a .name)) (numberLine (a .n)) (a .to) _ _ (p .put-name .kept .1 .0)
+    two-put (now (a .out)) _ _ (now (a .name)) (numberLine (a .n)) (a .to) _ _ (p .put-row .kept .1 .0)
     (fits o _ (p .before .before .if1 .taken)) (omega (arith, long (entry o)))
-    (omega (arith, entry o .pre), p .put-name .ensures) (c .before .before .number-line .ensures)
+    (omega (arith, entry o .pre), p .put-row .ensures) (c .before .before .number-line .ensures)
 
 returns-2 : tie.Need-returns-2
 returns-2 c =
@@ -60,7 +60,7 @@ named-line-spec =
     tie.close
     (tie.spec
     (λ c κs. search needs) (λ c. search needs) (λ c. search needs) (λ c κs. search needs)
-    (λ c κs. let o = c .before .before in (entry o .pre, omega (arith, room o (c .before .if1 .taken))))
+    (λ c κs. let o = c .before .before in omega (arith, entry o .pre, room o (c .before .if1 .taken)))
     (λ c. let p = c .before .before .before in let o = p .before .before .before in
     record { fits = omega (arith, room o (p .before .before .if1 .taken), entry o .good .1 .1 .0 .0) })
     (λ c κs. search needs) (λ c. search needs)

@@ -1,0 +1,3 @@
+pub mod Dyadic
+pub mod Pitch
+pub mod Claims
