@@ -1,4 +1,4 @@
--- The answers of the calls that an import makes (RULES 13.3; 02 M-100), for counting them.
+-- The answers of the calls that an import makes (RULES 12.3; 02 M-100), for counting them.
 use Prim.Native.Nat.{ℕ, _-_}
 use mathlib.Core.List.{List, [], _∷_}
 use lib.Dec.{leb, ltb}

@@ -1,12 +1,12 @@
 -- Each packet changes what is known of a note just as its message says, and so do they all. Assumes nothing.
 use Prim.Native.Nat.{ℕ, zero, suc, _<_}
 use mathlib.Core.Path.{_≡_, refl, sym, ap, subst, _∙_}
-use mathlib.Core.Bool.{Bool, true, false, cond}
+use mathlib.Core.Bool.{cond}
 use mathlib.Core.List.{List, [], _∷_}
-use lib.Dec.{eqb, ltb}
+use lib.Dec.{eqb}
 use lib.ListN.{getD, length, length-set, replicate, set}
 use lib.Seq.{getD-set-other, getD-set-same}
-use borrow.Author.Tests.{eq-eqb, eqb-false, eqb-true, lt-ltb}
+use borrow.Author.Tests.{eqb-false, eqb-true, lt-ltb}
 use Rattle.ground.proofs.Cases.{by-bool}
 use Rattle.ump.specs.declared.Group.{Group}
 use Rattle.ump.specs.declared.Channel.{Channel}
@@ -20,7 +20,7 @@ use Rattle.tuning.specs.declared.Sound.the-variants.{Silent}
 use Rattle.tuning.specs.declared.Tuned.{Tuned}
 use Rattle.tuning.specs.declared.Tuned.the-variants.{Never, To}
 use Rattle.tuning.specs.Desk.{Message, acted, allEnd, answerAs, askedAt, askedFor, bends, fresh, heard, nothing, neverTuned, said, silentNote, soundAt, sounds, tunedAt, tunes}
-use Rattle.desk_claims.specs.History.{History, HistoryOn, allSaid, heardAll, lastSays, saysBend, saysSound, saysTuned}
+use Rattle.desk_claims.specs.History.{History, allSaid, heardAll, lastSays, saysBend, saysSound, saysTuned}
 
 -- a desk of this group and channel with all its notes
 pub record Of (g : Group) (c : Channel) (d : Desk) : Type 0 where

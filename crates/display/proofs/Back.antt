@@ -2,16 +2,16 @@
 -- Assumes nothing.
 use Prim.Native.Nat.{ℕ, suc, _+_, _*_, _^_, _≤_, _<_}
 use mathlib.Core.Path.{_≡_, refl, sym, ap, _∙_, subst}
-use mathlib.Core.Bool.{Bool, true, false, true≢false}
-use native.Mathlib.Nat.{add-zero, le-of-lt, lt-of-lt-of-le, mul-assoc, mul-one, one-mul, mul-pos, zero-mul}
+use mathlib.Core.Bool.{true, false, true≢false}
+use native.Mathlib.Nat.{le-of-lt, lt-of-lt-of-le, mul-pos, zero-mul}
 use native.Mathlib.Omega.{arith}
 use borrow.Author.Tests.{le-ltb, lt-ltb}
 use lib.Dec.{T, le→leb, lit<, lit≤}
 use lib.IntN.{ℤ, natAbs, negsuc, pos}
-use lib.Ieee.{Float, binary64, down, fin, inFloat, inUnsigned, inf, lt, mul, nan, neg, ofInt, round, toUnsigned, up}
+use lib.Ieee.{Float, binary64, down, fin, inFloat, inUnsigned, inf, lt, mul, nan, neg, ofInt, toUnsigned, up}
 use lib.Ieee.Back.{unsigned-back}
 use lib.Ieee.Exact.{HasValue}
-use lib.Ieee.Fits.{down-pos, up-pos}
+use lib.Ieee.Fits.{down-pos}
 use lib.Ieee.Scale.{round-same}
 use Rattle.pitch.specs.Dyadic.{nearest, times2}
 use Rattle.pitch.proofs.Exact.{below-value, exactly, nearest-value, times2-is}

@@ -1,7 +1,7 @@
 -- Lines: how long their parts are, and what the loops over the notes come to. Assumes nothing.
-use Prim.Native.Nat.{ℕ, zero, suc, _+_, _*_, _/_, _%_, _^_, _≤_, _<_}
+use Prim.Native.Nat.{ℕ, zero, suc, _+_, _/_, _%_, _^_, _≤_, _<_}
 use mathlib.Core.Path.{_≡_, refl, sym, ap, ap₂, subst, _∙_}
-use mathlib.Core.Bool.{Bool, true, false, cond, _&&_}
+use mathlib.Core.Bool.{Bool, true, cond, _&&_}
 use mathlib.Core.List.{List, [], _∷_, _++_}
 use native.Mathlib.Omega.{arith}
 use native.Mathlib.Nat.{lt-of-lt-of-le}
@@ -12,20 +12,20 @@ use lib.ListN.{length, length-append}
 use lib.Ieee.{Float, round}
 use Rattle.ground.proofs.Cases.{choose}
 use Rattle.text.specs.Lines.{decimal, places}
-use Rattle.text.proofs.LineLaws.{digits-length, few, places-few}
-use Rattle.figures.specs.Figures.{exactDecimal, fraction, fractionDigits}
+use Rattle.text.proofs.LineLaws.{digits-length, few}
+use Rattle.figures.specs.Figures.{exactDecimal, fraction}
 use Rattle.figures.proofs.FigureLaws.{digits-few, whole-few}
 use Rattle.pitch.specs.declared.Base.{Base}
 use Rattle.pitch.specs.declared.Base.the-variants.{Number, Pitch725, Pitch79}
 use Rattle.pitch.specs.declared.Shown.{Shown}
 use Rattle.pitch.specs.declared.Shown.the-variants.{Nothing, Number as OfNumber, Pitch725 as OfPitch725, Pitch79 as OfPitch79}
 use Rattle.pitch.specs.Dyadic.{Dyadic, nearest, times2}
-use Rattle.pitch.specs.Pitch.{floatOf, pitchOf, shownAs}
+use Rattle.pitch.specs.Pitch.{floatOf, pitchOf}
 use Rattle.pitch.proofs.Exact.{size-below}
 use Rattle.tuning.specs.declared.Answer.{Answer}
 use Rattle.tuning.specs.declared.Desk.{Desk}
 use Rattle.tuning.specs.Desk.{Asked, answerAs, answerAt, askedAt, counted, refused, wholeAs, wholeAt}
-use Rattle.display.specs.Line.{Parts, below0, countBelow, fieldFrom, fieldOf, fieldsBelow, kindOf, lineOf, oneIfShown, pitchText, sameBelow, sameShown, shownAt, signedDecimal}
+use Rattle.display.specs.Line.{Parts, below0, countBelow, fieldFrom, fieldOf, fieldsBelow, oneIfShown, pitchText, sameBelow, sameShown, shownAt}
 use Rattle.display.proofs.Back.{small}
 
 -- ---- what is shown is a number of 2 to the -31

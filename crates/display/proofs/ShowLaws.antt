@@ -1,11 +1,11 @@
 -- A run of the desk: what one packet comes to, and a loop of them. Assumes nothing.
-use Prim.Native.Nat.{ℕ, _+_, _-_, _<_, _≤_}
+use Prim.Native.Nat.{ℕ, _+_, _-_, _<_}
 use mathlib.Core.Path.{_≡_, refl, sym, ap, _∙_}
 use mathlib.Core.Bool.{Bool, true, false, cond}
 use mathlib.Core.List.{List, [], _∷_, _++_}
 use native.Mathlib.Omega.{arith}
 use native.Mathlib.Nat.{add-zero}
-use lib.Dec.{eqb, leb, leb·zero}
+use lib.Dec.{leb, leb·zero}
 use lib.ListN.{drop, length, length-append, take}
 use lib.Seq.{sets-eq}
 use borrow.Author.Tests.{eq-eqb, leb-true, ne-eqb}
@@ -14,12 +14,12 @@ use Rattle.ground.proofs.StoreLaws.{written-none}
 use Rattle.ump.specs.Packet.{cut, packet, size}
 use Rattle.ump.proofs.PacketLaws.{packet-near}
 use Rattle.stream.specs.declared.Done.{Done}
-use Rattle.stream.specs.Answers.{cutPacket, noRoom, sent, stopsRun}
-use Rattle.stream.specs.Call.{Call, answerOf, fit, leftOf, readOf, refused, sentOf, stopped, went, within}
-use Rattle.stream.specs.Report.{counting, further, placeTold, placing}
+use Rattle.stream.specs.Answers.{noRoom, sent, stopsRun}
+use Rattle.stream.specs.Call.{Call, fit, leftOf, readOf, refused, sentOf, stopped, went, within}
+use Rattle.stream.specs.Report.{counting, further, placing}
 use Rattle.stream.specs.Run.{run}
 use Rattle.stream.proofs.CallLaws.{refusal, refused-fits}
-use Rattle.stream.proofs.RunLoop.{Did, DidRun, Inside, Runs, packet-inside, turn}
+use Rattle.stream.proofs.RunLoop.{DidRun, Inside, Runs, packet-inside, turn}
 use Rattle.text.specs.Lines.{decimal, placeAfter, withRow}
 use Rattle.screen.specs.declared.Screened.{Screened}
 use Rattle.screen.specs.Screen.{goesOn, neitherType, openRule, screen, screenBy, screened}

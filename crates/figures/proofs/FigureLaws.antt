@@ -1,7 +1,6 @@
 -- Digits behind the point: how many there are, that a loop stores them, and that they lose nothing. Assumes nothing.
 use Prim.Native.Nat.{ℕ, zero, suc, _+_, _*_, _-_, _/_, _%_, _^_, _≤_, _<_}
 use mathlib.Core.Path.{_≡_, refl, sym, ap, _∙_}
-use mathlib.Core.Bool.{cond}
 use mathlib.Core.List.{List, [], _∷_, _++_, append-assoc, append-nil}
 use native.Mathlib.Omega.{arith}
 use native.Mathlib.Nat.{mul-assoc, mul-comm, mul-right-comm, mul-sub, pow-suc, zero-add}
@@ -14,7 +13,7 @@ use Rattle.ground.proofs.Cases.{choose}
 use Rattle.ground.proofs.Stores.{sets-append}
 use Rattle.text.specs.Lines.{decimal, places}
 use Rattle.text.proofs.LineLaws.{digits-length, places-few}
-use Rattle.figures.specs.Figures.{Exact, Exactly, exactDecimal, fraction, fractionDigits, readAfter}
+use Rattle.figures.specs.Figures.{Exactly, exactDecimal, fraction, fractionDigits, readAfter}
 
 pub digits-few : (k r : ℕ) → length (fractionDigits k r) ≤ k
 unfolding fractionDigits

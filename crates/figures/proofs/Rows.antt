@@ -3,7 +3,6 @@ use Prim.Native.Nat.{ℕ, _+_, _≤_}
 use mathlib.Core.Path.{_≡_, refl, sym, ap, _∙_}
 use mathlib.Core.List.{List, [], _∷_, _++_}
 use native.Mathlib.Omega.{arith}
-use native.Mathlib.Nat.{add-assoc}
 use lib.ListN.{drop, length, length-append, set, take}
 use lib.Seq.{length-sets, sets, sets-eq, take-at}
 use Rattle.ground.proofs.Stores.{sets-append}

@@ -20,7 +20,7 @@ use Rattle.cable.specs.Put.{Put}
 use Rattle.cable.specs.Hearing.{Call, byteIn, told, unread}
 use Rattle.cable.proofs.Ways.{Few, Next, few, next-in}
 use Rattle.inlet.specs.declared.Imported.{Imported}
-use Rattle.inlet.specs.Inlet.{Made, callsIn, fitIn, made, nothingDone, ranIn, reported, took}
+use Rattle.inlet.specs.Inlet.{callsIn, fitIn, made, ranIn, reported, took}
 
 -- up to two words come back from their values
 words-back : (ws : List ℕ) → length ws ≤ 2 → take (length ws) (getD ws 0 0 ∷ getD ws 1 0 ∷ []) ≡ ws

@@ -15,10 +15,10 @@ use Rattle.ground.proofs.StoreLaws.{written-none}
 use Rattle.ump.specs.Word.{messageType}
 use Rattle.ump.specs.Packet.{first, second, size}
 use Rattle.ump.proofs.PacketLaws.{at-none, packet-near}
-use Rattle.fields.specs.Check.{badPlace, badPlaceOf, checkedFields, goodStatus}
+use Rattle.fields.specs.Check.{badPlaceOf, checkedFields, goodStatus}
 use Rattle.stream.specs.declared.Done.{Done}
 use Rattle.stream.specs.Answers.{badData, badStatus, cutPacket, noRoom, notForCable, reservedType, sent, stopsRun, takenIn}
-use Rattle.stream.specs.Call.{Call, fit, refused, sentOf}
+use Rattle.stream.specs.Call.{fit, refused, sentOf}
 use Rattle.stream.specs.Report.{counting, further, placeTold, placing}
 use Rattle.stream.proofs.CallLaws.{refusal, refused-fits}
 use Rattle.stream.proofs.RunLoop.{Inside, packet-inside}

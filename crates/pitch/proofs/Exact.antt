@@ -1,17 +1,17 @@
 -- The operators on floats at dyadic values: each loses nothing where the result's whole number has no more digits than
 -- the format keeps. Stated once, over the format f, the digits b and the exponent k. Assumes nothing.
 use mathlib.Core.Path.{_≡_, refl, sym, ap, _∙_, subst}
-use mathlib.Core.Bool.{Bool, true, false, not, cond, Bool·beq, _&&_, _||_, true≢false}
+use mathlib.Core.Bool.{Bool, true, false, not, cond, _&&_, true≢false}
 use Prim.Native.Nat.{ℕ, zero, suc, _+_, _-_, _*_, _/_, _^_, _≤_, _<_, zero-le}
-use native.Mathlib.Nat.{zero-add, lt-suc-self, eq-of-mul-eq-mul-right, mul-sub, mul-le-mul-right, add-zero, eq-or-lt-of-le, lt-of-mul-lt-mul-right, le-of-mul-le-mul-right, lt-of-lt-of-le, lt-of-le-of-lt, le-of-lt, mul-assoc, mul-comm, mul-right-comm, mul-left-comm, mul-mul-mul-comm, mul-pos, mul-one, one-mul, zero-mul, mul-zero, add-mul, mul-lt-mul-of-pos-right, mul-le-mul-left, le-refl, le-trans, mul-div-cancel}
+use native.Mathlib.Nat.{zero-add, mul-sub, mul-le-mul-right, add-zero, eq-or-lt-of-le, lt-of-mul-lt-mul-right, le-of-mul-le-mul-right, lt-of-lt-of-le, lt-of-le-of-lt, le-of-lt, mul-assoc, mul-comm, mul-right-comm, mul-mul-mul-comm, mul-pos, mul-one, one-mul, zero-mul, mul-zero, add-mul, mul-lt-mul-of-pos-right, mul-le-mul-left, mul-div-cancel}
 use native.Mathlib.Omega.{arith}
-use lib.IntN.{ℤ, pos, negsuc, natAbs, pos-ne-negsuc, negℤ, subℕ, _+ℤ_, _-ℤ_, _*ℤ_, +ℤ-comm, +ℤ-idr, +ℤ-invl, *ℤ-comm, negℤ-+ℤ, negℤ-negℤ}
-use lib.Dec.{T, ltb, ltb→lt, lt→ltb, le→leb, nltb→le, eqb, lit<, lit≤}
+use lib.IntN.{ℤ, pos, negsuc, natAbs, negℤ, _+ℤ_, _-ℤ_, _*ℤ_, +ℤ-comm, +ℤ-invl, negℤ-+ℤ, negℤ-negℤ}
+use lib.Dec.{T, ltb, ltb→lt, lt→ltb, nltb→le, lit<}
 use lib.Arith.{le→nltb}
 use mathlib.Core.Logic.{_⊎_, inl, inr}
 use lib.Pow.{pow-add, pow-pos, pow-mono, pow-lt, shl-lt, add-lt-pow}
-use lib.Ieee.{Float, nan, inf, fin, Format, binary64, prec, emax, low, up, down, unlike, round, neg, add, sub, sum, mul, div, ofInt, ofBits, inFloat, eq}
-use lib.Ieee.Fits.{and-i, eq→eqb, down-pos, up-pos, reach}
+use lib.Ieee.{Float, nan, inf, fin, Format, binary64, prec, emax, low, up, down, unlike, round, neg, add, sub, sum, mul, div, ofInt}
+use lib.Ieee.Fits.{down-pos, reach}
 use lib.Ieee.Exact.{HasValue, round-exact}
 use lib.Ieee.Scale.{round-same}
 use Rattle.pitch.specs.Dyadic.{Dyadic, nearest, signed, times2}

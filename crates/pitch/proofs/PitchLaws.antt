@@ -1,14 +1,13 @@
 -- The claims: each operation by its law in Exact.antt, and the shown pitch from them. Assumes nothing.
 use Prim.Native.Nat.{ℕ, _+_, _^_, _<_}
-use mathlib.Core.Path.{_≡_, sym}
+use mathlib.Core.Path.{_≡_}
 use lib.Dec.{lit<, lit≤}
-use lib.IntN.{ℤ, natAbs, pos, _+ℤ_}
+use lib.IntN.{ℤ, pos, _+ℤ_}
 use lib.Ieee.{Float, binary64, div, mul, sub}
-use Rattle.pitch.specs.declared.Base.{Base}
 use Rattle.pitch.specs.declared.Base.the-variants.{Number, Pitch725, Pitch79}
 use Rattle.pitch.specs.Dyadic.{Dyadic, nearest, times2}
-use Rattle.pitch.specs.Pitch.{baseOf, bendOf, floatOf, pitchOf, shownAs}
-use Rattle.pitch.specs.Claims.{Exactness, Held, Operations, float, power2}
+use Rattle.pitch.specs.Pitch.{baseOf, bendOf}
+use Rattle.pitch.specs.Claims.{Exactness, Operations, float, power2}
 use Rattle.pitch.proofs.Exact.{exactly, finer, minus, over, plus, power, size-below, times, times2-is, whole, widened}
 
 pub proved-operations : Operations

@@ -1,26 +1,24 @@
 -- Buffer by buffer: a run that reads some of its words has read whole packets, and what it sends is what the run over all
 -- sends for them. Assumes nothing.
-use Prim.Native.Nat.{ℕ, _+_, _*_, _-_, _/_, _≤_}
+use Prim.Native.Nat.{ℕ, _+_, _*_, _-_, _/_}
 use mathlib.Core.Path.{_≡_, refl, sym, ap, _∙_}
 use mathlib.Core.Bool.{Bool, true, false, cond}
-use mathlib.Core.Logic.{_⊎_, inl, inr}
-use mathlib.Core.List.{List, [], _∷_, _++_, append-assoc, append-nil, map}
+use mathlib.Core.Logic.{inl, inr}
+use mathlib.Core.List.{List, [], _∷_, _++_, append-assoc, append-nil}
 use native.Mathlib.Omega.{arith}
-use lib.Dec.{eqb, leb}
+use lib.Dec.{leb}
 use lib.ListN.{drop, length, length-append, take}
 use lib.Seq.{drop-at, take-at}
 use borrow.Author.Tests.{ne-eqb}
 use Rattle.ground.specs.Lists.{All, joined}
 use Rattle.ground.proofs.Cases.{by-bool}
-use Rattle.ump.specs.Packet.{Whole, cut, first, packet}
+use Rattle.ump.specs.Packet.{Whole, cut, packet}
 use Rattle.ump.proofs.PacketLaws.{packet-whole}
 use Rattle.stream.specs.Answers.{cutPacket, noRoom, sent}
-use Rattle.stream.specs.Call.{Call, stopped, went, within}
+use Rattle.stream.specs.Call.{stopped, went, within}
 use Rattle.stream.specs.Run.{Ran, run, thenRun}
 use Rattle.text.specs.Rescue.{dropLine}
 use Rattle.recording.specs.declared.Past.{Past}
-use Rattle.recording.specs.declared.Line.{Line}
-use Rattle.recording.specs.declared.Line.the-variants.{Drop}
 use Rattle.recording.specs.Recording.{cutLine, lineOf, passes, pastAfter, textOf}
 use Rattle.rescuing.specs.Rescue.{runTell, tell}
 use Rattle.screen.specs.Screen.{screenBy}

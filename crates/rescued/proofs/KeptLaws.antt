@@ -1,9 +1,9 @@
 -- What is kept is every whole packet that 4, 6 and 7 do not refuse. Assumes nothing.
-use Prim.Native.Nat.{ℕ, _+_, _*_, _≤_}
+use Prim.Native.Nat.{ℕ, _*_, _≤_}
 use mathlib.Core.Path.{_≡_, refl, sym, ap, _∙_}
-use mathlib.Core.Bool.{true, false, cond}
-use mathlib.Core.Logic.{_⊎_, inl, inr}
-use mathlib.Core.List.{List, [], _∷_, _++_}
+use mathlib.Core.Bool.{false}
+use mathlib.Core.Logic.{inl, inr}
+use mathlib.Core.List.{List, [], _∷_}
 use native.Mathlib.Omega.{arith}
 use lib.ListN.{length}
 use borrow.Author.Tests.{ne-eqb}
@@ -17,8 +17,8 @@ use Rattle.stream.specs.Run.{Ran, run}
 use Rattle.stream.proofs.RunLaws.{Does, ample, bounded, cut-size, roomed-sends, run-does}
 use Rattle.screen.specs.Screen.{screenBy}
 use Rattle.recording.specs.Recording.{keptOf, passes}
-use Rattle.rescuing.specs.Rescue.{keep, rowed}
-use Rattle.rescued.specs.Rescued.{KeptExactly, clean, keptPackets}
+use Rattle.rescuing.specs.Rescue.{keep}
+use Rattle.rescued.specs.Rescued.{KeptExactly, keptPackets}
 use Rattle.rescued.proofs.PieceLaws.{Short, Tidy, by-refusal, cut-tidy, no-wrong, short-none, whole-some}
 
 -- a whole piece goes on, and a short one stops

@@ -15,9 +15,9 @@ use Rattle.ground.proofs.Cases.{by-bool, choose, not-both}
 use Rattle.ump.specs.Word.{messageType, status}
 use Rattle.ump.specs.Packet.{Whole, cut, cutAfter, first, packet, second, size}
 use Rattle.ump.proofs.PacketLaws.{cut-end, cut-whole, cutAfter-drop, packet-whole, size-range}
-use Rattle.stream.specs.Answers.{badData, badStatus, cutPacket, reservedType, wrongProtocol}
+use Rattle.stream.specs.Answers.{badData, badStatus, reservedType, wrongProtocol}
 use Rattle.screen.specs.declared.Screened.{Screened}
-use Rattle.screen.specs.Screen.{admitted, answering, outside, placed, reserved, screenBy}
+use Rattle.screen.specs.Screen.{admitted, answering, outside, reserved, screenBy}
 use Rattle.fields.specs.Check.{badPlace, checkedFields, goodStatus}
 use Rattle.recording.specs.Recording.{found, isStamp, passes}
 

@@ -1,7 +1,7 @@
 -- The places and counts of the lines add up. Assumes nothing.
-use Prim.Native.Nat.{ℕ, _+_, _%_, _^_, _<_, _≤_}
+use Prim.Native.Nat.{ℕ, _+_, _%_, _^_, _<_}
 use mathlib.Core.Path.{_≡_, refl, sym, ap, _∙_}
-use mathlib.Core.Bool.{true, false}
+use mathlib.Core.Bool.{false}
 use mathlib.Core.List.{List, [], _∷_, _++_, append-assoc, map}
 use native.Mathlib.Omega.{arith}
 use native.Mathlib.Nat.{add-zero, zero-add}
@@ -10,7 +10,6 @@ use Rattle.ground.specs.Lists.{joined, sum}
 use Rattle.ground.proofs.Cases.{by-bool}
 use Rattle.ump.specs.Packet.{cut, first, packet}
 use Rattle.recording.specs.declared.Past.{Past}
-use Rattle.recording.specs.declared.Line.{Line}
 use Rattle.recording.specs.declared.Line.the-variants.{Nothing, Drop}
 use Rattle.recording.specs.Recording.{found, passes, pastAfter, start}
 use Rattle.rescued.specs.Rescued.{AddsUp, dropWords, keptPackets, linesFrom}

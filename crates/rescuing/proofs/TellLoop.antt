@@ -4,11 +4,11 @@ use mathlib.Core.Path.{_≡_, refl, ap, _∙_}
 use mathlib.Core.List.{List}
 use native.Mathlib.Omega.{arith}
 use lib.ListN.{drop, length}
-use Rattle.ground.specs.Store.{atStart, written}
-use Rattle.ump.specs.Packet.{cut, packet}
+use Rattle.ground.specs.Store.{written}
+use Rattle.ump.specs.Packet.{packet}
 use Rattle.stream.specs.Answers.{sent}
 use Rattle.stream.specs.Call.{Call, readOf, sentOf, within}
-use Rattle.stream.specs.Report.{counting, reported}
+use Rattle.stream.specs.Report.{counting}
 use Rattle.stream.specs.Run.{run}
 use Rattle.stream.proofs.RunLoop.{DidRun, Runs, turn}
 use Rattle.recording.specs.declared.Past.{Past}

@@ -5,12 +5,10 @@ use mathlib.Core.Path.{_≡_, refl, ap, _∙_}
 use mathlib.Core.Bool.{Bool, true, false, cond}
 use mathlib.Core.List.{List, [], _∷_, _++_}
 use native.Mathlib.Omega.{arith}
-use lib.Dec.{eqb, leb}
+use lib.Dec.{eqb}
 use lib.ListN.{length, length-append}
 use borrow.Author.Tests.{eq-eqb, le-leb}
-use Rattle.ground.specs.Lists.{All}
 use Rattle.stream.specs.Answers.{sent, takenIn}
-use Rattle.stream.specs.Run.{Ran}
 use Rattle.cable.specs.declared.Cable.{Cable}
 use Rattle.cable.specs.State.{pick, sound}
 use Rattle.cable.specs.Hearing.{Call, byteIn, dataIn, endIn, exclusiveIn, firstIn, messageIn, realTimeIn, serving}

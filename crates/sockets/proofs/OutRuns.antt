@@ -1,19 +1,17 @@
 -- A run out with room enough: a packet that passes gives its bytes, and then the rest. Assumes nothing.
 use Prim.Native.Nat.{ℕ, _+_, _≤_}
-use mathlib.Core.Path.{_≡_, refl, ap, _∙_}
-use mathlib.Core.Bool.{Bool, true, false, cond}
-use mathlib.Core.List.{List, [], _∷_, _++_}
-use lib.Dec.{eqb}
+use mathlib.Core.Path.{_≡_, refl}
+use mathlib.Core.List.{List, [], _++_}
 use lib.ListN.{length}
 use borrow.Author.Tests.{le-ltb}
 use Rattle.ump.specs.Packet.{Whole, cut, cutAfter, first, second}
 use Rattle.ump.proofs.PacketLaws.{cut-whole, packet-whole}
-use Rattle.stream.specs.Answers.{sent, takenIn}
+use Rattle.stream.specs.Answers.{sent}
 use Rattle.stream.specs.Claims.{roomed}
 use Rattle.stream.specs.Run.{Ran, run, thenRun}
 use Rattle.stream.proofs.RunLaws.{ample}
 use Rattle.screen.specs.Screen.{goesOn}
-use Rattle.outlet.specs.Outlet.{bytesOf, giving, packetOut, runOut, screenOut, stepOut}
+use Rattle.outlet.specs.Outlet.{bytesOf, giving, runOut, screenOut, stepOut}
 use Rattle.outlet.proofs.CallLaws.{goes-out}
 
 abbrev pub wholeOut : ℕ → List ℕ → Ran (Unit {0})

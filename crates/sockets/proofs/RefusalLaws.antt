@@ -1,23 +1,23 @@
 -- Each answer in its case: the ways of a call, and the row of cases, by the same tests. Assumes nothing.
 use Prim.Native.Nat.{ℕ, suc, _≤_, _<_}
-use mathlib.Core.Path.{_≡_, refl, sym, ap, _∙_}
-use mathlib.Core.Bool.{Bool, true, false, cond, not, _&&_, _||_}
+use mathlib.Core.Path.{_≡_, refl, sym, _∙_}
+use mathlib.Core.Bool.{true, false, cond, not, _||_}
 use mathlib.Core.List.{List, [], _∷_}
 use native.Mathlib.Omega.{arith}
 use lib.Dec.{eqb, leb, ltb, leb·zero}
-use lib.ListN.{getD, length}
+use lib.ListN.{length}
 use borrow.Author.Tests.{eq-eqb, eqb-false, eqb-true, le-leb, le-ltb, leb-false, leb-true, lt-leb, lt-ltb, ltb-false, ltb-true, ne-eqb}
 use Rattle.ground.proofs.Bools.{bools}
-use Rattle.ground.proofs.Cases.{by-bool, choose, not-both}
+use Rattle.ground.proofs.Cases.{by-bool, not-both}
 use Rattle.ump.specs.Word.{messageType}
 use Rattle.ump.specs.Packet.{first, packet, second}
-use Rattle.fields.specs.Check.{badPlaceOf, checkedFields, goodFields, goodStatus}
+use Rattle.fields.specs.Check.{badPlaceOf, goodStatus}
 use Rattle.stream.specs.Answers.{cutOff, cutPacket, dropped, noRoom, notSound, outOfRange, sent, takenIn}
-use Rattle.stream.specs.Call.{answerOf, fit, refused, within}
+use Rattle.stream.specs.Call.{refused, within}
 use Rattle.screen.specs.Screen.{reserved, screened}
 use Rattle.cable.specs.declared.Cable.{Cable}
 use Rattle.cable.specs.State.{pick, sound}
-use Rattle.cable.specs.Hearing.{Call, byteIn, dataIn, endIn, exclusiveIn, firstIn, messageIn, realTimeIn, serving}
+use Rattle.cable.specs.Hearing.{Call, byteIn, dataIn, endIn, exclusiveIn, firstIn, messageIn, realTimeIn}
 use Rattle.cable.specs.Hearing.{sending, statusIn, takes, unread}
 use Rattle.cable.proofs.Ways.{either, told}
 use Rattle.inlet.specs.Inlet.{callIn, fitIn, nextIn, oneIn}

@@ -1,23 +1,23 @@
 -- A stream and the same written out in full, call by call: the states differ in the running status of an open voice
 -- message alone. Assumes nothing.
 use Prim.Native.Nat.{ℕ, _-_, _≤_, _<_}
-use mathlib.Core.Path.{_≡_, refl, sym, ap, _∙_}
-use mathlib.Core.Bool.{Bool, true, false, _||_, _&&_}
+use mathlib.Core.Path.{_≡_, refl, sym, _∙_}
+use mathlib.Core.Bool.{true, false, _||_}
 use mathlib.Core.Logic.{_⊎_, inl, inr, ⊎-elim}
-use mathlib.Core.List.{List, [], _∷_, _++_}
+use mathlib.Core.List.{List, [], _∷_}
 use native.Mathlib.Omega.{arith}
 use lib.Dec.{eqb, leb, ltb}
 use lib.ListN.{drop}
-use borrow.Author.Tests.{eq-eqb, eqb-false, eqb-true, le-leb, le-ltb, leb-false, leb-true, lt-leb, lt-ltb, ltb-true, ne-eqb}
+use borrow.Author.Tests.{eq-eqb, eqb-false, eqb-true, le-ltb, leb-false, leb-true, lt-leb, lt-ltb, ltb-true, ne-eqb}
 use Rattle.ground.proofs.Bools.{and-left, and-right}
 use Rattle.ground.proofs.Cases.{by-bool}
-use Rattle.stream.specs.Answers.{cutOff, dropped, takenIn}
+use Rattle.stream.specs.Answers.{cutOff, dropped}
 use Rattle.cable.specs.declared.Cable.{Cable}
 use Rattle.cable.specs.State.{exclusive, holding, idle, messageWord, need, packetOf, pick, voiceByte}
 use Rattle.cable.specs.Hearing.{Call, byteIn, dataIn, drops, endIn, exclusiveIn, firstIn, lastForm, messageIn, realTimeIn}
 use Rattle.cable.specs.Hearing.{runsOn, sending, serving, shortIn, statusIn, takes, unread}
-use Rattle.cable.proofs.Ways.{either, pick-false, pick-true, told}
-use Rattle.inlet.specs.Inlet.{Made, callsIn, made}
+use Rattle.cable.proofs.Ways.{either, told}
+use Rattle.inlet.specs.Inlet.{callsIn}
 use Rattle.inlet.proofs.RunLaws.{calls-cons}
 use Rattle.sockets.specs.Words.{allIn, wholeIn}
 use Rattle.sockets.specs.RunningStatus.{RunningStatus, inFull, noted}

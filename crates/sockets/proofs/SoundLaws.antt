@@ -1,20 +1,20 @@
 -- Every call leaves a sound cable sound: way by way. Assumes nothing.
 use Prim.Native.Nat.{ℕ, zero, suc, _+_, _-_, _≤_, _<_}
-use mathlib.Core.Path.{_≡_, refl, sym, _∙_}
-use mathlib.Core.Bool.{Bool, true, false, cond, _&&_, _||_}
+use mathlib.Core.Path.{_≡_, refl, sym}
+use mathlib.Core.Bool.{Bool, true, false, _&&_, _||_}
 use mathlib.Core.Logic.{_⊎_, inl, inr, ⊎-elim}
 use mathlib.Core.List.{List, [], _∷_}
 use native.Mathlib.Omega.{arith}
 use lib.Dec.{eqb, leb, ltb}
 use lib.ListN.{getD, length, set}
 use lib.Seq.{getD-set-other}
-use borrow.Author.Tests.{eq-eqb, eqb-false, eqb-true, le-leb, le-ltb, leb-false, leb-true, lt-leb, lt-ltb, ltb-false, ltb-true}
+use borrow.Author.Tests.{eq-eqb, eqb-false, eqb-true, le-leb, le-ltb, leb-false, leb-true, lt-ltb, ltb-false, ltb-true}
 use borrow.Author.Tests.{ne-eqb}
 use Rattle.ground.proofs.Bools.{and-left, and-right}
 use Rattle.ground.proofs.Cases.{by-bool}
 use Rattle.stream.specs.Run.{Ran}
 use Rattle.cable.specs.declared.Cable.{Cable}
-use Rattle.cable.specs.State.{exclusive, heldAt, holding, idle, need, pick, pushed, slot, slotAt, sound, soundHeld, soundOpen}
+use Rattle.cable.specs.State.{exclusive, holding, idle, need, pushed, slot, slotAt, sound, soundHeld, soundOpen}
 use Rattle.cable.specs.State.{soundRunning, voiceByte}
 use Rattle.cable.specs.Hearing.{Call, byteIn, dataIn, endIn, exclusiveIn, firstIn, messageIn, realTimeIn, runsOn, serving}
 use Rattle.cable.specs.Hearing.{statusIn}

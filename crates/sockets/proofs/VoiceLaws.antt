@@ -1,7 +1,7 @@
 -- MT 2 packets out and in again: a word's bytes come back as the word, whatever the running status was. Assumes
 -- nothing.
 use mathlib.Core.Path.{_≡_, refl, sym, ap, _∙_}
-use mathlib.Core.Bool.{Bool, true, false, _||_, _&&_}
+use mathlib.Core.Bool.{true, false, _||_, _&&_}
 use mathlib.Core.Logic.{⊎-elim}
 use mathlib.Core.List.{List, [], _∷_, _++_, map}
 use Prim.Native.Nat.{ℕ, _-_, _≤_, _<_, _+_, _*_, _/_, _^_}
@@ -23,7 +23,7 @@ use Rattle.screen.specs.Screen.{goesOn}
 use Rattle.cable.specs.State.{idle, messageWord, need, pick, sound}
 use Rattle.inlet.specs.Inlet.{callsIn, runIn}
 use Rattle.outlet.specs.Outlet.{amount, bytesOf, payload, runOut, screenOut}
-use Rattle.sockets.specs.Words.{Fine, allIn, wholeIn}
+use Rattle.sockets.specs.Words.{Fine, allIn}
 use Rattle.sockets.specs.VoiceReturns.{Voice, VoiceReturns, cleaned}
 use Rattle.sockets.proofs.InRuns.{Returned, heard, run-whole, whole-answer, whole-read}
 use Rattle.sockets.proofs.OutRuns.{gives, gives-none, wholeOut}

@@ -1,4 +1,4 @@
--- How often each answer came among some calls, and bad data by place (RULES 10.3).
+-- How often each answer came among some calls, and bad data by place (RULES 10.3 and 10.6).
 use Prim.Native.Nat.{ℕ, zero, suc, _+_, _%_, _^_}
 use mathlib.Core.Bool.{cond}
 use mathlib.Core.List.{List, [], _∷_, map}

@@ -8,7 +8,6 @@ use native.Mathlib.Numerals.{add-one}
 use lib.Dec.{leb}
 use lib.ListN.{length, length-append, set}
 use lib.Seq.{sets}
-use borrow.Author.Tests.{le-leb}
 use Rattle.ground.proofs.Cases.{choose}
 use Rattle.ground.proofs.Stores.{sets-append}
 use Rattle.keys.specs.declared.Keys.{Keys}

@@ -5,10 +5,9 @@ use mathlib.Core.Path.{_≡_, refl, sym, ap, _∙_}
 use mathlib.Core.Bool.{Bool, true, false}
 use mathlib.Core.List.{List, [], _∷_, _++_}
 use native.Mathlib.Omega.{arith}
-use native.Mathlib.Numerals.{add-one}
 use lib.Dec.{leb}
-use lib.ListN.{getD, length, length-append, set, take}
-use lib.Seq.{length-take-le, sets, take-suc}
+use lib.ListN.{length, length-append, set}
+use lib.Seq.{sets}
 use borrow.Author.Tests.{le-ltb, lt-ltb}
 use Rattle.ground.proofs.Stores.{sets-append}
 use Rattle.text.specs.Lines.{decimal, digits, fieldsOf, placeAfter, places, withRow}

@@ -11,7 +11,7 @@ use Rattle.screen.specs.declared.Screened.{Screened}
 use Rattle.screen.specs.Screen.{goesOn, neitherType, screen}
 use Rattle.tuning.specs.declared.Desk.{Desk}
 use Rattle.tuning.specs.declared.Sound.the-variants.{Silent}
-use Rattle.tuning.specs.Desk.{Message, acted, allEnd, bends, endsAll, heard, isFor, messageOf, nothing, said, soundOf, sounds, tunes}
+use Rattle.tuning.specs.Desk.{acted, allEnd, bends, endsAll, heard, isFor, messageOf, nothing, said, soundOf, sounds, tunes}
 
 module _ (w v : ℕ) where
   pub at-controller : status w ≡ 0 → messageOf w v ≡ cond (eqb (byte4 w) 3) (tunes (data1 w) v) nothing

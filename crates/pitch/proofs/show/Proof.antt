@@ -3,8 +3,7 @@ use mathlib.Core.Path.{_≡_, sym, ap, _∙_}
 use borrow.Author.Needs.{needs}
 use lib.Ieee.{Float}
 use Rattle.pitch.specs.declared.Base.{Base}
-use Rattle.pitch.specs.Dyadic.{nearest}
-use Rattle.pitch.specs.Pitch.{pitchOf, shownAs}
+use Rattle.pitch.specs.Pitch.{shownAs}
 use Rattle.pitch.proofs.show.Statement.{statement}
 use Rattle.pitch.proofs.show.Tie as tie
 

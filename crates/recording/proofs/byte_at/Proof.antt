@@ -1,5 +1,4 @@
 -- `recording::byte_at`: past the end stands what is no byte.
-use Prim.Native.Nat.{ℕ}
 use mathlib.Core.Path.{sym, _∙_}
 use borrow.Author.Needs.{needs}
 use denote.Ref.{now}

@@ -1,5 +1,4 @@
 -- `text::place_bytes` meets its contract: none has no bytes, and a place has a space and its digits. Assumes nothing.
-use mathlib.Core.Path.{sym, _∙_}
 use native.Mathlib.Omega.{arith}
 use borrow.Author.Needs.{needs}
 use Rattle.ground.proofs.Tests.{tests}

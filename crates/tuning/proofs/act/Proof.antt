@@ -1,6 +1,5 @@
 -- `tuning::act`: by the status, and the two indexes and the controllers that count.
-use mathlib.Core.Path.{_≡_, sym, _∙_}
-use mathlib.Core.Bool.{Bool, true, false}
+use mathlib.Core.Path.{sym, _∙_}
 use borrow.Author.Needs.{needs}
 use Rattle.ground.proofs.Tests.{tests}
 use Rattle.tuning.specs.Desk.{acted}

@@ -1,5 +1,5 @@
 -- `tuning::answer_from`: cents and units are asked for, and else the pitch is shown.
-use mathlib.Core.Path.{refl, ap}
+use mathlib.Core.Path.{refl}
 use Rattle.ground.proofs.Tests.{tests}
 use Rattle.pitch.proofs.Exact.{none-exact}
 use Rattle.tuning.specs.Desk.{answerAs, askedRange, wholeAs}

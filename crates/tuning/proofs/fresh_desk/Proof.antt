@@ -1,7 +1,6 @@
 -- `tuning::fresh_desk`: the definition computes.
 use mathlib.Core.Path.{refl}
 use Rattle.tuning.specs.Desk.{fresh}
-use borrow.Author.Needs.{needs}
 use Rattle.tuning.proofs.fresh_desk.Statement.{statement}
 use Rattle.tuning.proofs.fresh_desk.Tie as tie
 

@@ -1,5 +1,5 @@
 -- `tuning::hear`: the packet acts if it is sound and of the channel.
-use mathlib.Core.Path.{refl, sym, _∙_}
+use mathlib.Core.Path.{sym, _∙_}
 use mathlib.Core.Bool.{true, false}
 use borrow.Author.Needs.{needs}
 use Rattle.tuning.specs.Desk.{acted}

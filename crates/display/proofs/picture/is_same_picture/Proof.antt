@@ -1,7 +1,7 @@
 -- `display::picture::is_same_picture`: the loop's invariant is that the notes below are compared. The measure is the
 -- notes left.
 use Prim.Native.Nat.{_-_, _≤_}
-use mathlib.Core.Path.{_≡_, sym, _∙_}
+use mathlib.Core.Path.{_≡_, sym}
 use native.Mathlib.Omega.{arith}
 use Rattle.display.specs.Line.{sameBelow}
 use Rattle.display.proofs.LineLaws.{same-none, same-turn}

@@ -1,9 +1,8 @@
 -- `display::picture::put_field`: a space, the number, the name and the pitch, one after another.
-use Prim.Native.Nat.{_+_, _≤_}
-use mathlib.Core.Path.{_≡_}
+use Prim.Native.Nat.{_+_}
 use mathlib.Core.List.{[], _∷_, _++_}
 use native.Mathlib.Omega.{arith}
-use lib.ListN.{length, length-append}
+use lib.ListN.{length-append}
 use Rattle.text.specs.Lines.{decimal}
 use Rattle.figures.proofs.Rows.{Row, and-put, and-stored, nothing-put, row-long}
 use Rattle.display.specs.Line.{fieldOf}

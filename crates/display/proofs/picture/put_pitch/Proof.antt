@@ -1,14 +1,12 @@
 -- `display::picture::put_pitch`: a minus below 0, and the digits.
-use Prim.Native.Nat.{_+_}
 use mathlib.Core.Path.{_≡_, sym, _∙_}
 use mathlib.Core.Bool.{true, false}
-use mathlib.Core.List.{[], _∷_, _++_}
+use mathlib.Core.List.{[], _∷_}
 use native.Mathlib.Omega.{arith}
 use lib.IntN.{natAbs}
-use lib.ListN.{length}
 use lib.Ieee.{ofBits}
 use Rattle.figures.specs.Figures.{exactDecimal}
-use Rattle.figures.proofs.Rows.{Row, and-put, nothing-put}
+use Rattle.figures.proofs.Rows.{and-put, nothing-put}
 use Rattle.pitch.specs.Dyadic.{times2}
 use Rattle.display.specs.Line.{below0, pitchText}
 use Rattle.display.proofs.Back.{turned}

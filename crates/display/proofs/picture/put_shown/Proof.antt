@@ -1,5 +1,5 @@
 -- `display::picture::put_shown`: by what is shown.
-use mathlib.Core.Path.{_≡_, refl, sym, ap, subst, _∙_}
+use mathlib.Core.Path.{_≡_, refl, sym, subst}
 use native.Mathlib.Nat.{add-zero}
 use lib.Dec.{lit≤}
 use Rattle.pitch.specs.declared.Shown.{Shown}

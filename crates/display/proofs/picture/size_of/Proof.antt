@@ -1,8 +1,6 @@
 -- `display::picture::size_of`: the product is the whole number, and is cast to it.
-use mathlib.Core.Path.{sym}
 use lib.Ieee.{ofBits}
 use Rattle.display.proofs.Back.{turned}
-use borrow.Author.Needs.{needs}
 use Rattle.display.proofs.picture.size_of.Statement.{statement}
 use Rattle.display.proofs.picture.size_of.Tie as tie
 

@@ -10,7 +10,6 @@ use Rattle.screen.specs.declared.Screened.{Screened}
 use Rattle.screen.specs.Screen.{goesOn, neitherType, screen}
 use Rattle.stream.specs.Call.{within}
 use Rattle.display.specs.Run.{show}
-use Rattle.display.specs.declared.DeskAndReport.{DeskAndReport}
 use Rattle.display.proofs.ShowLaws.{at-line, at-refused, at-same}
 use Rattle.display.proofs.run.show_next.Statement.{statement}
 use Rattle.display.proofs.run.show_next.Tie as tie

@@ -1,8 +1,6 @@
 -- `outlet::packets::export`: the group is asked for first.
 use mathlib.Core.Path.{refl}
 use native.Mathlib.Nat.{sub-zero, zero-add}
-use denote.Ref.{now}
-use lib.ListN.{length}
 use borrow.Author.Tests.{le-ltb, lt-ltb}
 use Rattle.ground.proofs.StoreLaws.{start-written}
 use Rattle.outlet.specs.Outlet.{oneOut}

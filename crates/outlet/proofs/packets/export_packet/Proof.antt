@@ -1,8 +1,6 @@
 -- `outlet::packets::export_packet`: what the screening lets pass gives its bytes, and all else is refused.
 use mathlib.Core.Path.{sym, ap, _∙_}
-use native.Mathlib.Omega.{arith}
 use denote.Ref.{now}
-use lib.ListN.{length}
 use Rattle.screen.specs.declared.Screened.{Screened}
 use Rattle.outlet.proofs.CallLaws.{goes-out, refused-out}
 use borrow.Author.Needs.{needs}

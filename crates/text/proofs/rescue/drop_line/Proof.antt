@@ -1,5 +1,5 @@
 -- `text::rescue::drop_line`: the place is put and then the rest, where the whole line has room.
-use Prim.Native.Nat.{_+_, _*_, _-_, _<_}
+use Prim.Native.Nat.{_-_, _<_}
 use mathlib.Core.Path.{_≡_, sym, _∙_}
 use mathlib.Core.Bool.{Bool}
 use mathlib.Core.List.{[]}

@@ -1,6 +1,6 @@
 -- `text::rescue::named_line`: the name is put and then the number, where the whole line has room.
 use Prim.Native.Nat.{_+_, _-_, _≤_}
-use mathlib.Core.Path.{_≡_, refl, sym, _∙_}
+use mathlib.Core.Path.{_≡_, sym, _∙_}
 use mathlib.Core.Bool.{Bool, true}
 use mathlib.Core.List.{_++_}
 use native.Mathlib.Omega.{arith}
