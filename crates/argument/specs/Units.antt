@@ -1,4 +1,5 @@
--- The argument that gives the units of a range (02 M-110): one decimal digit to three, of at most 127, and no other byte.
+-- The argument that gives the units of a range (02 M-110): one decimal digit to three, of at most 127, and no other
+-- byte.
 use Prim.Native.Nat.{ℕ, _+_, _*_, _-_}
 use mathlib.Core.Bool.{Bool, cond, _&&_}
 use mathlib.Core.List.{List, [], _∷_}

@@ -33,24 +33,28 @@ on w = w ∷ 0x80000000 ∷ []
 abbrev pub bend : ℕ → List ℕ
 bend v = 0x40E00000 ∷ v ∷ []
 
--- 69.25 and 70.25; then notes, bends and ranges at their ends; Pitch 7.25 and Pitch 7.9 at theirs; one over the other; a
--- silent Note On; what ends a note; and the refusals
+-- 69.25 and 70.25; then notes, bends and ranges at their ends; Pitch 7.25 and Pitch 7.9 at theirs; one over the other;
+-- a silent Note On; what ends a note; and the refusals
 unfoldable pub examples : List Example
 examples =
     example ((0x40904503 ∷ 0x80008A80 ∷ []) ∷ []) 69 2 0 answered (Pitch79 (fin false 277 (negsuc 1)))
-    ∷ example ((0x40904503 ∷ 0x80008A80 ∷ []) ∷ bend 0xC0000000 ∷ []) 69 2 0 answered (Pitch79 (fin false 281 (negsuc 1)))
+    ∷ example ((0x40904503 ∷ 0x80008A80 ∷ []) ∷ bend 0xC0000000 ∷ []) 69 2 0 answered
+    (Pitch79 (fin false 281 (negsuc 1)))
     ∷ example (on 0x40900000 ∷ bend 0 ∷ []) 0 127 0 answered (Number (fin true 127 (pos 0)))
     ∷ example (on 0x40900000 ∷ bend 0 ∷ []) 0 0 0 answered (Number (fin false 0 (pos 0)))
     ∷ example (on 0x40907F00 ∷ bend 0 ∷ []) 127 127 0 answered (Number (fin false 0 (pos 0)))
     ∷ example (on 0x40907F00 ∷ bend 0xFFFFFFFF ∷ []) 127 127 0 answered (Number (fin false 545460846465 (negsuc 30)))
     ∷ example (on 0x40900500 ∷ (0x40000503 ∷ 0 ∷ []) ∷ []) 5 127 0 answered (Pitch725 (fin false 0 (pos 0)))
-    ∷ example ((0x40000503 ∷ 0xFFFFFFFF ∷ []) ∷ on 0x40900500 ∷ []) 5 0 0 answered (Pitch725 (fin false 4294967295 (negsuc 24)))
+    ∷ example ((0x40000503 ∷ 0xFFFFFFFF ∷ []) ∷ on 0x40900500 ∷ []) 5 0 0 answered
+    (Pitch725 (fin false 4294967295 (negsuc 24)))
     ∷ example ((0x40000503 ∷ 0xFFFFFFFF ∷ []) ∷ on 0x40900500 ∷ bend 0xFFFFFFFF ∷ []) 5 127 0 answered
     (Pitch725 (fin false 547608330049 (negsuc 30)))
     ∷ example ((0x40900503 ∷ 0x80000000 ∷ []) ∷ bend 0 ∷ []) 5 127 0 answered (Pitch79 (fin true 127 (pos 0)))
     ∷ example ((0x40900503 ∷ 0x8000FFFF ∷ []) ∷ []) 5 127 0 answered (Pitch79 (fin false 65535 (negsuc 8)))
-    ∷ example ((0x40903C03 ∷ 0x80007A00 ∷ []) ∷ (0x40003C03 ∷ 0 ∷ []) ∷ []) 60 2 0 answered (Pitch79 (fin false 61 (pos 0)))
-    ∷ example ((0x40903C03 ∷ 0x80007A00 ∷ []) ∷ (0x40803C00 ∷ 0 ∷ []) ∷ on 0x40903C00 ∷ []) 60 2 0 answered (Number (fin false 15 (pos 2)))
+    ∷ example ((0x40903C03 ∷ 0x80007A00 ∷ []) ∷ (0x40003C03 ∷ 0 ∷ []) ∷ []) 60 2 0 answered
+    (Pitch79 (fin false 61 (pos 0)))
+    ∷ example ((0x40903C03 ∷ 0x80007A00 ∷ []) ∷ (0x40803C00 ∷ 0 ∷ []) ∷ on 0x40903C00 ∷ []) 60 2 0 answered
+    (Number (fin false 15 (pos 2)))
     ∷ example ((0x40903D00 ∷ 0 ∷ []) ∷ []) 61 2 0 answered (Number (fin false 61 (pos 0)))
     ∷ example (on 0x40903C00 ∷ (0x40803C00 ∷ 0 ∷ []) ∷ []) 60 2 0 notSounding Nothing
     ∷ example (on 0x40903C00 ∷ (0x40B07800 ∷ 0 ∷ []) ∷ []) 60 2 0 notSounding Nothing

@@ -13,7 +13,8 @@ use Rattle.tuning.specs.declared.Sound.{Sound}
 use Rattle.tuning.specs.declared.Sound.the-variants.{Silent}
 use Rattle.tuning.specs.declared.Tuned.{Tuned}
 use Rattle.tuning.specs.declared.Tuned.the-variants.{Never, To}
-use Rattle.tuning.specs.Desk.{Message, allEnd, answerAs, answerAt, askedFor, bends, fresh, heard, nothing, said, soundAt, sounds, tunedAt, tunes}
+use Rattle.tuning.specs.Desk.{Message, allEnd, answerAs, answerAt, askedFor, bends, fresh, heard, nothing, said}
+use Rattle.tuning.specs.Desk.{soundAt, sounds, tunedAt, tunes}
 
 -- the desk after some packets, the oldest first
 unfoldable pub heardAll : Desk → List (List ℕ) → Desk
@@ -24,8 +25,8 @@ heardAll d (p ∷ ps) = heardAll (heard d p) ps
 abbrev pub allSaid : Group → Channel → List (List ℕ) → List Message
 allSaid g c ps = map (λ (p : List ℕ). said g c (packet p)) ps
 
--- What a message says of how a note sounds, of the Pitch 7.25 of its number, and of the bend. One that does not speak of
--- it leaves what was said before.
+-- What a message says of how a note sounds, of the Pitch 7.25 of its number, and of the bend. One that does not speak
+-- of it leaves what was said before.
 unfoldable pub saysSound : ℕ → Sound → Message → Sound
 saysSound k before (sounds j s) = cond (eqb j k) s before
 saysSound k before allEnd = Silent
@@ -62,7 +63,8 @@ pub record HistoryOn (g : Group) (c : Channel) : Type 0 where
   -- and what is answered for a note is worked out from these alone
   pub answered : (ps : List (List ℕ)) (k units cents : ℕ) → k < 128
       → answerAt (heardAll (fresh g c) ps) k units cents
-      ≡ answerAs (askedFor (lastSays (saysSound k) Silent (allSaid g c ps)) (lastSays (saysTuned k) Never (allSaid g c ps)) k units cents)
+      ≡ answerAs (askedFor (lastSays (saysSound k) Silent (allSaid g c ps)) (lastSays (saysTuned k) Never (allSaid g c ps))
+      k units cents)
       (lastSays saysBend centre (allSaid g c ps)) units
 
 abbrev pub History : Type 0

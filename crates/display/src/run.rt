@@ -53,7 +53,8 @@ fn show_next(words: &[u32], past: Done, desk: Desk, units: u32, text: &mut [u8])
 
 // The packets of the words, until the line of one has no room or the words end.
 pub fn show_some(desk: Desk, units: u32, words: &[u32], text: &mut [u8]) -> DeskAndReport
-    ensures report { λ r. ⌜ r .done ≡ reported (runShown units (length (now (text .entry))) desk (now (words .entry))) ⌝ }
+    ensures report { λ r. ⌜ r .done
+        ≡ reported (runShown units (length (now (text .entry))) desk (now (words .entry))) ⌝ }
     ensures desk { λ r. ⌜ r .desk ≡ runShown units (length (now (text .entry))) desk (now (words .entry)) .left .1 ⌝ }
     ensures lines { λ _. ⌜ now (text .exit) ≡ atStart
         (runShown units (length (now (text .entry))) desk (now (words .entry)) .sends) (now (text .entry)) ⌝ }

@@ -7,7 +7,8 @@ use lib.Dec.{eqb}
 use lib.ListN.{length}
 use Rattle.text.specs.Lines.{decimal}
 
--- The first k digits of r / 2 ^ 31, or fewer where nothing is left: tenfold, a digit (from 48 on) stands before the point.
+-- The first k digits of r / 2 ^ 31, or fewer where nothing is left: tenfold, a digit (from 48 on) stands before the
+-- point.
 unfoldable pub fractionDigits : ℕ → ℕ → List ℕ
 fractionDigits zero r = []
 fractionDigits (suc k) r = cond (eqb r 0) [] ((48 + r * 10 / 2 ^ 31) ∷ fractionDigits k (r * 10 % 2 ^ 31))

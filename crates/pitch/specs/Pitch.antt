@@ -6,7 +6,8 @@ use lib.Ieee.{Float, fin}
 use Rattle.pitch.specs.declared.Base.{Base}
 use Rattle.pitch.specs.declared.Base.the-variants.{Number, Pitch725, Pitch79}
 use Rattle.pitch.specs.declared.Shown.{Shown}
-use Rattle.pitch.specs.declared.Shown.the-variants.{Nothing, Number as OfNumber, Pitch725 as OfPitch725, Pitch79 as OfPitch79}
+use Rattle.pitch.specs.declared.Shown.the-variants.{Nothing, Number as OfNumber, Pitch725 as OfPitch725}
+use Rattle.pitch.specs.declared.Shown.the-variants.{Pitch79 as OfPitch79}
 
 -- the note number; Pitch 7.25, with 25 binary places; Pitch 7.9, with 9
 abbrev pub baseOf : Base → ℕ
@@ -18,7 +19,7 @@ baseOf (Pitch79 h) = h * 2 ^ 22
 abbrev pub centre : ℕ
 centre = 0x80000000
 
--- the bend's offset from its start, divided by 2 to the 31, times the units of the range
+-- what the bend adds: how far it is from its start, in parts of 2 to the -31, for each unit of the range
 abbrev pub bendOf : ℕ → ℕ → ℤ
 bendOf bend units = (pos bend -ℤ pos centre) *ℤ pos units
 

@@ -1,7 +1,7 @@
-// The pitch of a note in hundred-cent units, as a 64-bit float: what it is counted from, and what the
+// The pitch of a note as an f64, in units of a semitone: what it is counted from, and what the
 // bend adds.
 //
-// Every function is total, and the shown pitch is exact: times 2 to the 31 it is the whole number of
+// Every function is total. Nothing is rounded: a pitch is just as many parts of 2 to the -31 as the number of
 // specs/Pitch.antt, since no operation on the way loses anything.
 ghost use mathlib.Core.Path.{_≡_};
 ghost use lib.IntN.{pos};

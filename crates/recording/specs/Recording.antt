@@ -31,8 +31,8 @@ sameAt bytes i = eqb (getD bytes i noByte) (getD header i 0)
 -- what a file that begins with these bytes is answered with: the mark is asked for first
 unfoldable pub headerAnswer : List ℕ → ℕ
 headerAnswer bytes =
-    cond (sameAt bytes 0 && sameAt bytes 1 && sameAt bytes 2) (cond (sameAt bytes 3 && sameAt bytes 4) sent wrongVersion)
-    wrongMark
+    cond (sameAt bytes 0 && sameAt bytes 1 && sameAt bytes 2)
+    (cond (sameAt bytes 3 && sameAt bytes 4) sent wrongVersion) wrongMark
 
 -- What refuses a packet, or the empty part where none is whole: no protocol is wrong, and no rule holds.
 abbrev pub found : List ℕ → Screened

@@ -16,8 +16,8 @@ ghost use mathlib.Core.Path.{_≡_};
 ghost use lib.ListN.{getD};
 ghost use Rattle.text.specs.Lines.{placeAfter, withRow};
 ghost use Rattle.recording.specs.Recording.{cutLine, header, headerAnswer, isSaid, isStamp, leftLine};
-ghost use Rattle.recording.specs.Recording.{lineKept, lineOf, noByte, passes, pastAfter, stampAfter, stampOf, start};
-ghost use Rattle.recording.specs.Recording.{textOf, ticksBetween};
+ghost use Rattle.recording.specs.Recording.{lineKept, lineOf, noByte, passes, pastAfter, stampAfter};
+ghost use Rattle.recording.specs.Recording.{stampOf, start, textOf, ticksBetween};
 
 // How many bytes the header has.
 pub const HEADER_BYTES: usize = 5;

@@ -14,8 +14,8 @@ use Rattle.recording.specs.declared.Stamp.{Stamp}
 use Rattle.recording.specs.declared.Past.{Past}
 use Rattle.recording.specs.declared.Line.{Line}
 use Rattle.recording.specs.declared.Line.the-variants.{Nothing, Drop, Ticks, Bytes, Answer}
-use Rattle.recording.specs.Recording.{cutLine, found, header, headerAnswer, isStamp, lineKept, passes, pastAfter, stampOf}
-use Rattle.recording.specs.Recording.{start, textOf, ticksBetween}
+use Rattle.recording.specs.Recording.{cutLine, found, header, headerAnswer, isStamp, lineKept, passes, pastAfter}
+use Rattle.recording.specs.Recording.{stampOf, start, textOf, ticksBetween}
 use Rattle.rescuing.specs.Rescue.{keep, runKeep, runTell, tell}
 
 -- 02 M-109: of the pieces of a stream, those that are kept; a cut one is not

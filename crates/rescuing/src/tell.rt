@@ -56,7 +56,8 @@ fn tell_packet(packet: &[u32], told: Told, text: &mut [u8]) -> Told
     requires { ⌜ told .done .read + length (now packet) < 2 ^ 64 ⌝ }
     ensures turn { λ r. ⌜ r ≡ turnOf told (now (packet .entry)) (length (now (text .entry)) - told .done .written)
         (fit (length (now (text .entry)) - told .done .written)
-        (went sent (textOf (lineOf (told .past) (now (packet .entry)))) (pastAfter (told .past) (now (packet .entry))))) ⌝ }
+        (went sent (textOf (lineOf (told .past) (now (packet .entry))))
+        (pastAfter (told .past) (now (packet .entry))))) ⌝ }
     ensures text { λ _. ⌜ now (text .exit) ≡ written (told .done .written)
         (sentOf (fit (length (now (text .entry)) - told .done .written)
         (went sent (textOf (lineOf (told .past) (now (packet .entry))))

@@ -70,7 +70,13 @@ neverTuned = record { tuned = Never }
 
 unfoldable pub fresh : Group → Channel → Desk
 fresh g c =
-    record { group = g; channel = c; bend = centre; notes = replicate 128 silentNote; tunings = replicate 128 neverTuned }
+    record {
+      group = g;
+      channel = c;
+      bend = centre;
+      notes = replicate 128 silentNote;
+      tunings = replicate 128 neverTuned;
+    }
 
 abbrev pub withSound : Desk → ℕ → Sound → Desk
 withSound d k s =
@@ -125,7 +131,8 @@ pub data Asked : Type 0 where
 
 -- 21: cents that are not 0, or units above 127
 unfoldable pub askedRange : Base → ℕ → ℕ → Asked
-askedRange base units cents = cond (eqb cents 0) (cond (leb units 127) (counted base) (refused badRange)) (refused badRange)
+askedRange base units cents =
+    cond (eqb cents 0) (cond (leb units 127) (counted base) (refused badRange)) (refused badRange)
 
 -- the last Pitch 7.25 of a note number, or the number
 abbrev pub baseUnder : Tuned → ℕ → Base

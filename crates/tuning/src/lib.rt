@@ -296,7 +296,8 @@ fn answer_from(base: Base, bend: u32, units: u32, cents: u32) -> Answer
 // The answer for a note, by how it sounds and what came for its number.
 fn answer_for(sound: Sound, tuned: Tuned, note: u8, bend: u32, units: u32, cents: u32) -> Answer
     ensures answer { λ r. ⌜ r ≡ answerAs (askedFor sound tuned note units cents) bend units ⌝ }
-    ensures exact { λ r. ⌜ Dyadic 42 31 (floatOf (r .shown)) (wholeAs (askedFor sound tuned note units cents) bend units) ⌝ }
+    ensures exact { λ r. ⌜ Dyadic 42 31 (floatOf (r .shown))
+        (wholeAs (askedFor sound tuned note units cents) bend units) ⌝ }
 {
     match sound {
         Sound::Silent => refuse(NOT_SOUNDING),
