@@ -14,7 +14,9 @@ use Rattle.recording.specs.declared.Past.{Past}
 use Rattle.recording.specs.declared.Line.{Line}
 use Rattle.recording.specs.Recording.{isStamp, lineKept, passes, pastAfter, stampAfter, stampOf, start, ticksAfter}
 use Rattle.rescued.specs.Rescued.{RescuedAgain, clean, dropWords, isDrop, keptPackets, linesFrom, undropped}
-use Rattle.rescued.proofs.PieceLaws.{Tidy, cut-all, cut-tidy, dropped-whole, short-none}
+use Rattle.claims.proofs.Pieces.{Tidy, cut-tidy}
+use Rattle.claims.proofs.StreamLaws.{cut-all}
+use Rattle.rescued.proofs.PieceLaws.{dropped-whole, short-none}
 use Rattle.rescued.proofs.KeptLaws.{none-passes}
 
 kept-whole : (ps : List (List ℕ)) → Tidy ps → All Whole (keptPackets ps)

@@ -23,7 +23,9 @@ use Rattle.recording.specs.Recording.{cutLine, lineOf, passes, pastAfter, textO
 use Rattle.rescuing.specs.Rescue.{runTell, tell}
 use Rattle.screen.specs.Screen.{screenBy}
 use Rattle.rescued.specs.Rescued.{BufferByBuffer, clean, keptPackets, linesFrom, texts}
-use Rattle.rescued.proofs.PieceLaws.{Short, Tidy, cut-all, cut-joined, cut-tidy, joined-cut, short-none}
+use Rattle.claims.proofs.Pieces.{Short, Tidy, cut-tidy}
+use Rattle.claims.proofs.StreamLaws.{cut-all, cut-joined}
+use Rattle.rescued.proofs.PieceLaws.{joined-cut, short-none}
 use Rattle.rescued.proofs.PieceLaws.{short-some, whole-some}
 use Rattle.rescued.proofs.SumLaws.{joined-append}
 

@@ -19,7 +19,8 @@ use Rattle.screen.specs.Screen.{screenBy}
 use Rattle.recording.specs.Recording.{keptOf, passes}
 use Rattle.rescuing.specs.Rescue.{keep}
 use Rattle.rescued.specs.Rescued.{KeptExactly, keptPackets}
-use Rattle.rescued.proofs.PieceLaws.{Short, Tidy, by-refusal, cut-tidy, no-wrong, short-none, whole-some}
+use Rattle.claims.proofs.Pieces.{Short, Tidy, cut-tidy}
+use Rattle.rescued.proofs.PieceLaws.{by-refusal, no-wrong, short-none, whole-some}
 
 -- a whole piece goes on, and a short one stops
 pub keep-goes : (t : Unit {0}) (p : List ℕ) → Whole p → keep t p ≡ went sent (keptOf p) tt

@@ -1,25 +1,25 @@
 -- The pieces of a stream: a whole one goes and a short one stops, joined they are the stream, and what the screening
 -- says of them. Assumes nothing.
-use Prim.Native.Nat.{ℕ, zero, suc, pred, _<_, _≤_}
+use Prim.Native.Nat.{ℕ, zero, suc, pred, _≤_}
 use mathlib.Core.Path.{_≡_, refl, sym, _∙_}
-use mathlib.Core.Bool.{Bool, true, false, not, _||_}
-use mathlib.Core.Logic.{_⊎_, inl, inr}
-use mathlib.Core.List.{List, [], _∷_, _++_, append-assoc, append-nil}
+use mathlib.Core.Bool.{true, false, not, _||_}
+use mathlib.Core.List.{List, [], _∷_, _++_}
 use native.Mathlib.Omega.{arith}
-use lib.Dec.{eqb, ltb}
-use lib.ListN.{drop, length, length-take, take, take-append-drop}
-use borrow.Author.Tests.{eqb-true, lt-leb, ltb-false, ltb-true, ne-eqb}
-use Rattle.ground.specs.Lists.{All, joined}
+use lib.Dec.{eqb}
+use lib.ListN.{drop, length, take, take-append-drop}
+use borrow.Author.Tests.{eqb-true, lt-leb, ne-eqb}
+use Rattle.ground.specs.Lists.{joined}
 use Rattle.ground.proofs.Bools.{and-left, and-right}
 use Rattle.ground.proofs.Cases.{by-bool, choose, not-both}
 use Rattle.ump.specs.Word.{messageType, status}
 use Rattle.ump.specs.Packet.{Whole, cut, cutAfter, first, packet, second, size}
-use Rattle.ump.proofs.PacketLaws.{cut-end, cut-whole, cutAfter-drop, packet-whole, size-range}
+use Rattle.ump.proofs.PacketLaws.{packet-whole, size-range}
 use Rattle.stream.specs.Answers.{badData, badStatus, reservedType, wrongProtocol}
 use Rattle.screen.specs.declared.Screened.{Screened}
 use Rattle.screen.specs.Screen.{admitted, answering, outside, reserved, screenBy}
 use Rattle.fields.specs.Check.{badPlace, checkedFields, goodStatus}
 use Rattle.recording.specs.Recording.{found, isStamp, passes}
+use Rattle.claims.proofs.Pieces.{Short}
 
 -- a stream is its pieces, one after another
 pub joined-cut : (s : List ℕ) → joined (cut s) ≡ s
@@ -36,41 +36,6 @@ joined-cut s = go 0 s
             → take n (w ∷ s) ++ joined (cutAfter (pred n) s) ≡ w ∷ s
         one zero r e = absurd (omega arith)
         one (suc n) r e = rw e (take-append-drop (suc n) (w ∷ s))
-
--- a piece that is shorter than its size, and pieces of which only the last may be so
-abbrev pub Short : List ℕ → Type 0
-Short [] = ⊥
-Short (w ∷ s) = length (w ∷ s) < size w
-
-abbrev pub Tidy : List (List ℕ) → Type 0
-Tidy [] = Unit {0}
-Tidy (p ∷ ps) = (Whole p × Tidy ps) ⊎ (Short p × (ps ≡ []))
-
-pub cut-tidy : (s : List ℕ) → Tidy (cut s)
-unfolding cut cutAfter Whole
-cut-tidy s = go 0 s
-  where
-    go : (k : ℕ) (s : List ℕ) → Tidy (cutAfter k s)
-    go k [] = tt
-    go (suc k) (w ∷ s) = go k s
-    go zero (w ∷ s) = one (size w) refl (ltb (length (w ∷ s)) (size w)) refl (go (pred (size w)) s)
-      where
-        one : (n : ℕ) → size w ≡ n → (b : Bool) → ltb (length (w ∷ s)) (size w) ≡ b → Tidy (cutAfter (pred n) s)
-            → Tidy (take n (w ∷ s) ∷ cutAfter (pred n) s)
-        one zero e b l ih = absurd (omega (arith, size-range w))
-        one (suc n) e true l ih =
-            let few : length (w ∷ s) < size w = ltb-true (length (w ∷ s)) (size w) l in
-            inr (omega (arith, length-take n s), cutAfter-drop n s ∙ cut-end s n (omega arith))
-        one (suc n) e false l ih = inl (omega (arith, length-take n s, ltb-false (length (w ∷ s)) (size w) l), ih)
-
--- whole packets joined are cut as they were, whatever follows
-pub cut-joined : (ps : List (List ℕ)) (s : List ℕ) → All Whole ps → cut (joined ps ++ s) ≡ ps ++ cut s
-cut-joined [] s h = refl
-cut-joined (p ∷ ps) s h = rw (append-assoc p (joined ps) s, cut-whole p (joined ps ++ s) (h .0), cut-joined ps s (h .1))
-
-pub cut-all : (ps : List (List ℕ)) → All Whole ps → cut (joined ps) ≡ ps
-unfolding cut cutAfter
-cut-all ps h = rw (append-nil (joined ps), append-nil ps) at (cut-joined ps [] h)
 
 -- a whole piece has words, and a short one has no packet
 pub whole-some : (p : List ℕ) → Whole p → length p ≡ 0 → ⊥

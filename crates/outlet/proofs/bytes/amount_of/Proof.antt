@@ -1,3 +1,5 @@
+-- `outlet::bytes::amount_of` meets its contract: an exclusive says how many, and else the status byte does. Assumes
+-- nothing.
 use Rattle.outlet.specs.Outlet.{amount}
 use borrow.Author.Needs.{needs}
 use Rattle.outlet.proofs.bytes.amount_of.Statement.{statement}

@@ -1,3 +1,4 @@
+-- `outlet::bytes::eight` meets its contract: the parts stand one after another in eight places. Assumes nothing.
 use Rattle.ground.proofs.Tests.{tests}
 use borrow.Author.Needs.{needs}
 use Rattle.outlet.proofs.bytes.eight.Statement.{statement}

@@ -1,3 +1,4 @@
+-- `outlet::bytes::head_of` meets its contract: F0 for an exclusive, and else the status byte. Assumes nothing.
 use borrow.Author.Needs.{needs}
 use Rattle.outlet.proofs.bytes.head_of.Statement.{statement}
 use Rattle.outlet.proofs.bytes.head_of.Tie as tie

@@ -1,3 +1,4 @@
+-- `outlet::bytes::is_closing` meets its contract: the type and the status are read by their names. Assumes nothing.
 use borrow.Author.Needs.{needs}
 use Rattle.outlet.proofs.bytes.is_closing.Statement.{statement}
 use Rattle.outlet.proofs.bytes.is_closing.Tie as tie

@@ -1,3 +1,4 @@
+-- `outlet::packets::answer_for` meets its contract: only a packet without bytes is taken in. Assumes nothing.
 use Rattle.ground.proofs.Tests.{tests}
 use Rattle.outlet.proofs.packets.answer_for.Statement.{statement}
 use Rattle.outlet.proofs.packets.answer_for.Tie as tie

@@ -1,3 +1,4 @@
+-- `outlet::packets::is_ours` meets its contract: the type and the group are read by their names. Assumes nothing.
 use borrow.Author.Needs.{needs}
 use Rattle.outlet.proofs.packets.is_ours.Statement.{statement}
 use Rattle.outlet.proofs.packets.is_ours.Tie as tie
