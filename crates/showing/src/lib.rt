@@ -4,11 +4,14 @@
 // A packet that straddles two reads is not cut, input of any length is taken, and a line that has no room
 // waits for the next turn. What a buffer comes to is said by the contract of display. Here no contract
 // can say what is read or written, so these functions are proved to be safe and to end.
-use flow::SORTS;
 use libc::STDIN_FILENO;
 use libc::STDOUT_FILENO;
+use notice::Ending;
 use screen::NEITHER_TYPE;
 use stream::NO_ROOM;
+use tally::SORTS;
+use tally::one_more;
+use tally::sort_of;
 use tuning::Desk;
 use ump::Channel;
 use ump::Group;
@@ -35,23 +38,13 @@ struct State {
     failed: bool,
 }
 
-// One more of a sort.
-fn counted(counts: [u64; SORTS], sort: usize) -> [u64; SORTS] {
-    let mut counts = counts;
-    if sort < SORTS {
-        counts[sort] = std::num::wrapping_add_u64(counts[sort], 1);
-    }
-    counts
-}
-
-// With the packets of the words, each by the answer that refuses it, and bad data by its place behind it.
+// With the packets of the words, each by the answer that refuses it, and bad data by its place.
 fn counted_all(counts: [u64; SORTS], words: &[u32]) -> [u64; SORTS] {
     let mut counts = counts;
     let mut at: usize = 0;
     while at < words.len() {
         let screened = screen::screen(NEITHER_TYPE, ump::packet_at(words, at));
-        let sort = screened.answer as u64 + screened.place as u64;
-        let more = counted(counts, sort as usize);
+        let more = one_more(counts, sort_of(screened.answer, screened.place));
         counts = more;
         at += ump::size(words[at]);
     }
@@ -112,6 +105,15 @@ fn turns(desk: Desk, units: u32, wrong: bool) -> State {
     s
 }
 
+// How the input ended.
+fn ending(s: State) -> Ending {
+    if s.ended & (0 < s.left) {
+        Ending::CutPacket
+    } else {
+        Ending::Whole
+    }
+}
+
 // The display of the channel that the first two arguments name, with the range that the third names; and
 // at the end a line on standard error about what was refused.
 pub fn desk() {
@@ -121,5 +123,5 @@ pub fn desk() {
     let desk = tuning::fresh_desk(Group(chosen.group), Channel(chosen.channel));
     let s = turns(desk, asked.units as u32, start.wrong);
     let counts = s.counts;
-    notice::say_reader(b"desk", s.read, counts, s.ended & (0 < s.left));
+    notice::say_reader(b"desk", s.read, counts, ending(s));
 }

@@ -23,18 +23,6 @@ packet-at-requires c κs = search needs
 screen-requires : tie.Need-screen-requires Inv-loop μ-loop
 screen-requires c κs = search needs
 
-cast-sort : tie.Need-cast-sort Inv-loop μ-loop
-cast-sort c = search needs
-
-cast-sort-2 : tie.Need-cast-sort-2 Inv-loop μ-loop
-cast-sort-2 c = search needs
-
-add-sort : tie.Need-add-sort Inv-loop μ-loop
-add-sort c = search needs
-
-counted-requires : tie.Need-counted-requires Inv-loop μ-loop
-counted-requires c κs = search needs
-
 mul-size : tie.Need-mul-size Inv-loop μ-loop
 mul-size c = search needs
 
@@ -46,17 +34,17 @@ size-requires c κs = search needs
 
 add-at : tie.Need-add-at Inv-loop μ-loop
 add-at c =
-    let s = c .before .before .before .before .before .before .before .before .before .before in
-    let l = c .before .before .before .before .before .before .before .before .loop in
+    let s = c .before .before .before .before .before .before .before .before .before in
+    let l = c .before .before .before .before .before .before .before .loop in
     let r = size-range (getD (s .args .words .now) (l .at) 0) in
-    omega (arith, s .good .1 .0 .0, s .good .1 .0 .1, c .before .before .before .before .before .before .before .loop-test .taken, c .size .ensures, r)
+    omega (arith, s .good .1 .0 .0, s .good .1 .0 .1, c .before .before .before .before .before .before .loop-test .taken, c .size .ensures, r)
 
 loop-less : tie.Need-loop-less Inv-loop μ-loop
 loop-less c =
-    let s = c .before .before .before .before .before .before .before .before .before .before in
-    let l = c .before .before .before .before .before .before .before .before .loop in
+    let s = c .before .before .before .before .before .before .before .before .before in
+    let l = c .before .before .before .before .before .before .before .loop in
     let r = size-range (getD (s .args .words .now) (l .at) 0) in
-    omega (arith, c .before .before .before .before .before .before .before .loop-test .taken, c .size .ensures, r)
+    omega (arith, c .before .before .before .before .before .before .loop-test .taken, c .size .ensures, r)
 
 loop-again : tie.Need-loop-again Inv-loop μ-loop
 loop-again c = tt
@@ -73,10 +61,8 @@ counted-all-spec =
     loop-holds
     packet-at-requires
     screen-requires
-    cast-sort
-    cast-sort-2
-    add-sort
-    counted-requires
+    (λ c κs. search needs)
+    (λ c κs. search needs)
     mul-size
     shared-slice-read-size
     size-requires

@@ -3,9 +3,9 @@ use Prim.Native.Nat.{_*_, _≤_}
 use mathlib.Core.Path.{sym, _∙_}
 use native.Mathlib.Omega.{arith}
 use borrow.Author.Needs.{needs}
-use lib.ListN.{length, length-take}
+use lib.ListN.{length, length-take, take}
 use lib.Seq.{length-take-le}
-use Rattle.filter.proofs.BufferLaws.{words-most}
+use Rattle.program.proofs.Bounds.{words-most}
 use Rattle.showing.proofs.turn.Statement.{statement}
 use Rattle.showing.proofs.turn.Tie as tie
 
@@ -21,8 +21,10 @@ filling c = c .before .before .before .before .before .before
 -- the words fit in their buffer, and four bytes were read for each
 filled : (c : tie.After-words-of) → (c .words-of .result ≤ length (c .words-of .last .1 .0)) × (4 * c .words-of .result ≤ length (reading c .read-more .last .1 .1 .0))
 filled c =
-    let w = words-most (c .words-of .result) (reading c .read-more .result .have) (reading c .read-more .last .1 .1 .0) (entry (reading c) .args .words .now) (c .words-of .ensures .0) in
-    (omega (arith, w .0, c .words-of .kept .1 .0), w .1)
+    let r = reading c .read-more in
+    let b = r .last .1 .1 .0 in
+    let w = words-most (c .words-of .result) (take (r .result .have) b) (entry (reading c) .args .words .now) (c .words-of .ensures .0) in
+    (omega (arith, w .0, c .words-of .kept .1 .0), omega (arith, w .1, length-take (r .result .have) b))
 
 -- no more words are heard than there are
 heard : (c : tie.After-show-some) → c .show-some .result .done .read ≤ filling c .words-of .result
