@@ -1,25 +1,42 @@
--- Laws of the check: when one field and when two are good; the fields of an exclusive by its count; and where the first
--- bad field of a list stands. Assumes nothing.
+-- Laws of the check: when a field and those behind it are good; the fields of an exclusive by its count; and where the
+-- first bad field of a list stands. Assumes nothing.
 use Prim.Native.Nat.{ℕ, zero, suc, _+_, _<_}
-use mathlib.Core.Path.{_≡_, refl}
+use mathlib.Core.Path.{_≡_, refl, ap, _∙_}
 use mathlib.Core.Bool.{Bool, true, false, cond, _&&_, _||_}
 use mathlib.Core.List.{List, [], _∷_, map}
 use native.Mathlib.Omega.{arith}
 use lib.ListN.{getD, take}
 use lib.Dec.{eqb, leb, ltb}
 use borrow.Author.Tests.{lt-leb, ne-eqb}
+use Rattle.ground.proofs.Bools.{and-true}
 use Rattle.ground.proofs.Cases.{by-bool}
-use Rattle.fields.specs.Check.{Field, FirstBad, badPlace, behind, good, seven}
+use Rattle.fields.specs.Check.{Field, FirstBad, badPlace, behind, good, goodFields, seven}
 
--- two fields, of which the tests are known
-pub both-good : (a b : Bool) → eqb (cond a (behind (cond b (behind 0) 1)) 1) 0 ≡ (a && b)
-both-good true true = refl
-both-good true false = refl
-both-good false b = refl
+-- the place of the first that is bad in a row of fields, by their tests; there is none exactly where all are good
+placeIn : List Bool → ℕ
+placeIn [] = 0
+placeIn (b ∷ bs) = cond b (behind (placeIn bs)) 1
+
+allIn : List Bool → Bool
+allIn [] = true
+allIn (b ∷ bs) = b && allIn bs
+
+all-in : (bs : List Bool) → eqb (placeIn bs) 0 ≡ allIn bs
+unfolding placeIn allIn
+all-in [] = refl
+all-in (false ∷ bs) = refl
+all-in (true ∷ bs) = after (placeIn bs) ∙ all-in bs
+  where
+    after : (n : ℕ) → eqb (behind n) 0 ≡ eqb n 0
+    after n = by-bool (eqb n 0) (λ e. rw e) (λ e. rw e (ne-eqb (n + 1) 0 (λ q. omega (arith, q))))
 
 pub one-good : (a : Bool) → eqb (cond a (behind 0) 1) 0 ≡ a
-one-good true = refl
-one-good false = refl
+unfolding placeIn allIn
+one-good a = all-in (a ∷ []) ∙ and-true a
+
+pub both-good : (a b : Bool) → eqb (cond a (behind (cond b (behind 0) 1)) 1) 0 ≡ (a && b)
+unfolding placeIn allIn
+both-good a b = all-in (a ∷ b ∷ []) ∙ ap (λ (z : Bool). a && z) (and-true b)
 
 -- the fields of an exclusive: the count first, and a byte behind it is not asked
 pub counted : (n a b c d e f : ℕ)
@@ -37,6 +54,17 @@ counted (suc (suc (suc (suc (suc zero))))) a b c d e f = refl
 counted (suc (suc (suc (suc (suc (suc zero)))))) a b c d e f = refl
 counted (suc (suc (suc (suc (suc (suc (suc n))))))) a b c d e f =
     rw (lt-leb (suc (suc (suc (suc (suc (suc (suc n))))))) 6 (omega arith))
+
+pub counted-good : (n a b c d e f : ℕ)
+    → goodFields (record { value = n; most = 6 } ∷ map seven (take n (a ∷ b ∷ c ∷ d ∷ e ∷ f ∷ [])))
+    ≡ (leb n 6 && ((ltb n 1 || leb a 127) && ((ltb n 2 || leb b 127) && ((ltb n 3 || leb c 127)
+    && ((ltb n 4 || leb d 127) && ((ltb n 5 || leb e 127) && (ltb n 6 || leb f 127)))))))
+unfolding placeIn allIn
+counted-good n a b c d e f =
+    ap (λ (k : ℕ). eqb k 0) (counted n a b c d e f)
+    ∙ all-in (leb n 6 ∷ (ltb n 1 || leb a 127) ∷ (ltb n 2 || leb b 127) ∷ (ltb n 3 || leb c 127)
+    ∷ (ltb n 4 || leb d 127) ∷ (ltb n 5 || leb e 127) ∷ (ltb n 6 || leb f 127) ∷ [])
+    ∙ simp and-true
 
 -- a place is that of the first bad field
 pub is-first : (fs : List Field) (k : ℕ) → badPlace fs ≡ suc k → FirstBad fs k

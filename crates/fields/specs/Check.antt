@@ -91,6 +91,14 @@ badPlace (f ∷ fs) = cond (good f) (behind (badPlace fs)) 1
 abbrev pub goodFields : List Field → Bool
 goodFields fs = eqb (badPlace fs) 0
 
+-- the message types whose packets are passed on unchanged in both directions (RULES 1.2)
+abbrev pub unchanged : ℕ → Bool
+unchanged t = eqb t 0 || eqb t 1 || eqb t 3 || eqb t 5 || eqb t 13 || eqb t 15
+
+-- such a packet in which nothing is bad
+unfoldable pub goodUnchanged : ℕ → ℕ → Bool
+goodUnchanged w v = unchanged (messageType w) && (goodStatus w && goodFields (checkedFields w v))
+
 -- the same place, of a packet
 abbrev pub badPlaceOf : List ℕ → ℕ
 badPlaceOf p = badPlace (checkedFields (first p) (second p))

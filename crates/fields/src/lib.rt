@@ -15,6 +15,7 @@ ghost use mathlib.Core.Bool.{cond};
 ghost use mathlib.Core.List.{[], _∷_};
 ghost use Prim.Native.Nat.{_+_, _≤_, _<_, _^_};
 ghost use Rattle.fields.specs.Check.{badPlace, behind, checkedFields, exclusiveFields, goodFields, goodStatus};
+ghost use Rattle.fields.specs.Check.{goodUnchanged};
 ghost use Rattle.fields.specs.Check.{seven, systemFields, systemStatus, voice1Fields, voice1Status};
 ghost use Rattle.fields.specs.Check.{voice2Fields};
 
@@ -67,6 +68,50 @@ pub fn is_good_voice1(w: u32) -> bool
         byte3(w) <= MOST
     } else {
         (byte3(w) <= MOST) & (byte4(w) <= MOST)
+    }
+}
+
+// Whether a system message has no bad field.
+fn is_good_system(w: u32) -> bool
+    ensures { λ r. ⌜ r ≡ goodFields (systemFields w) ⌝ }
+{
+    let b = byte2(w);
+    if (b == 0xF1) | (b == 0xF3) {
+        return byte3(w) <= MOST;
+    }
+    if b == 0xF2 {
+        return (byte3(w) <= MOST) & (byte4(w) <= MOST);
+    }
+    true
+}
+
+// Whether a packet of an exclusive has none: bytes behind the count are not asked.
+fn is_good_exclusive(w: u32, v: u32) -> bool
+    ensures { λ r. ⌜ r ≡ goodFields (exclusiveFields w v) ⌝ }
+{
+    let n = count(w);
+    let sixth = (n < 6) | (byte4(v) <= MOST);
+    let fifth = (n < 5) | (byte3(v) <= MOST);
+    let fourth = (n < 4) | (byte2(v) <= MOST);
+    let third = (n < 3) | (byte1(v) <= MOST);
+    let second = (n < 2) | (byte4(w) <= MOST);
+    let first = (n < 1) | (byte3(w) <= MOST);
+    (n <= 6) & (first & (second & (third & (fourth & (fifth & sixth)))))
+}
+
+// Whether a packet is of a type that is passed on unchanged in both directions, and has no bad status or field.
+pub fn is_good_unchanged(w: u32, v: u32) -> bool
+    ensures { λ r. ⌜ r ≡ goodUnchanged w v ⌝ }
+{
+    let t = message_type(w);
+    match t {
+        0 => status(w) <= 4,
+        1 => is_system_status(byte2(w)) & is_good_system(w),
+        3 => (status(w) <= 3) & is_good_exclusive(w, v),
+        5 => true,
+        13 => true,
+        15 => true,
+        _ => false,
     }
 }
 

@@ -12,9 +12,8 @@ use Rattle.memory.specs.Memory.{dataHighPresent}
 use Rattle.channel.specs.declared.Record.{Record}
 use Rattle.effect.specs.Effect.{effected}
 use Rattle.message.specs.Message.{Midi1, controlChange1, read1}
-use Rattle.lift.specs.declared.Control.{Control}
-use Rattle.lift.specs.declared.Control.the-variants.{AssignableBank, AssignableIndex, BankHigh, BankLow, DataHigh}
-use Rattle.lift.specs.declared.Control.the-variants.{DataLow, Nothing, Plain, RegisteredBank, RegisteredIndex, Reset}
+use Rattle.lift.specs.Lift.{AssignableBank, AssignableIndex, BankHigh, BankLow, Control, DataHigh, DataLow}
+use Rattle.lift.specs.Lift.{Nothing, Plain, RegisteredBank, RegisteredIndex, Reset}
 use Rattle.lift.specs.Lift.{Lifted, controlEffect, controlOf, controlled, dataHigh, dataLow, effectOf, endsNotes, lift}
 use Rattle.lift.specs.Lift.{plainEffect}
 use Rattle.lift.specs.Played.{event, keysAfter, recordAfter}

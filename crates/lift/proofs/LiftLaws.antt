@@ -20,12 +20,10 @@ use Rattle.message.specs.Message.{Bank, Fits1, Fits2, Midi1, Midi2, assignable2
 use Rattle.message.specs.Message.{channelPressure2, controlChange1, controlChange2, noBank, noteOff1, noteOff2, noteOn1}
 use Rattle.message.specs.Message.{noteOn2, part, pitchBend1, pitchBend2, polyPressure1, polyPressure2, programChange1}
 use Rattle.message.specs.Message.{programChange2, read1, registered2}
-use Rattle.lift.specs.declared.Control.{Control}
-use Rattle.lift.specs.declared.Control.the-variants.{AssignableBank, AssignableIndex, BankHigh, BankLow, DataHigh}
-use Rattle.lift.specs.declared.Control.the-variants.{DataLow, Nothing, Plain, RegisteredBank, RegisteredIndex, Reset}
-use Rattle.effect.specs.Effect.{leaves}
-use Rattle.lift.specs.Lift.{Lifted, addressed2, banked2, channelMode, controlOf, controlled, dataHigh, dataLow}
-use Rattle.lift.specs.Lift.{enters, lift, plainEffect, reset}
+use Rattle.lift.specs.Lift.{AssignableBank, AssignableIndex, BankHigh, BankLow, Control, DataHigh, DataLow}
+use Rattle.lift.specs.Lift.{Nothing, Plain, RegisteredBank, RegisteredIndex, Reset}
+use Rattle.lift.specs.Lift.{Lifted, addressed2, banked2, controlOf, controlled, dataHigh, dataLow}
+use Rattle.lift.specs.Lift.{enters, lift, reset}
 
 pub read1-fits : (w : ℕ) → Fits1 (read1 w)
 unfolding read1
@@ -57,14 +55,6 @@ plain-control i h n =
   where
     no : (k : ℕ) → part k ≡ true → eqb i k ≡ false
     no k t = ne-eqb i k (λ e. not-both (sym h ∙ ap part e ∙ t))
-
--- outside the first four channel mode messages it is none of them
-pub no-mode : (i k : ℕ) → channelMode i ≡ false → channelMode k ≡ true → eqb i k ≡ false
-no-mode i k h t = ne-eqb i k (λ e. not-both (sym h ∙ ap channelMode e ∙ t))
-
-pub no-effect : (i : ℕ) → channelMode i ≡ false → plainEffect i ≡ leaves
-unfolding plainEffect
-no-effect i h = rw (no-mode i 120 h refl, no-mode i 123 h refl)
 
 reset-control : (i : ℕ) → eqb i reset ≡ true → controlOf i ≡ Reset
 unfolding controlOf

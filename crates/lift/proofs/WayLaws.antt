@@ -20,7 +20,7 @@ bend-way w = omega arith
 module _ (w : ℕ) (r : Memory) where
   off-way : status w ≡ 8 → noteIn w r (status w) ≡ messageIn w r (read1 w)
   unfolding read1 lift effectOf first2 second2 shownStatus
-  off-way e = rw e
+  off-way e = rw e (by-bool (eqb (data2 w) 0) (λ z. rw z) (λ z. rw z))
 
   on-way : status w ≡ 9 → noteIn w r (status w) ≡ messageIn w r (read1 w)
   unfolding read1 lift effectOf first2 second2 shownStatus up

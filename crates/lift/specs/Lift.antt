@@ -3,17 +3,13 @@
 use Prim.Native.Nat.{ℕ, _+_, _*_, _%_, _^_}
 use mathlib.Core.Bool.{Bool, true, false, cond, _&&_, _||_}
 use mathlib.Core.Option.{Option, none, some}
-use lib.Dec.{eqb, leb}
+use lib.Dec.{eqb}
 use Rattle.scale.specs.Scale.{up}
 use Rattle.memory.specs.declared.Memory.{Memory}
 use Rattle.memory.specs.Memory.{addressOpen, assignable, dataHighPresent, marked, present, registered}
 use Rattle.memory.specs.Memory.{withAddressBank, withAddressClosed, withAddressIndex, withBankHigh, withBankLow}
 use Rattle.memory.specs.Memory.{withBankSpent, withDataHigh}
 use Rattle.effect.specs.Effect.{leaves, presses, releases, releasesAll, remembers}
-use Rattle.lift.specs.declared.Control.{Control}
-use Rattle.lift.specs.declared.Control.the-variants.{BankHigh, BankLow, RegisteredBank, RegisteredIndex}
-use Rattle.lift.specs.declared.Control.the-variants.{AssignableBank, AssignableIndex, DataHigh, DataLow}
-use Rattle.lift.specs.declared.Control.the-variants.{Nothing, Plain, Reset}
 use Rattle.message.specs.Message.{Bank, Midi1, Midi2, assignable2, bank, channelPressure1, channelPressure2}
 use Rattle.message.specs.Message.{controlChange1, controlChange2, noBank, noteOff1, noteOff2, noteOn1, noteOn2}
 use Rattle.message.specs.Message.{pitchBend1}
@@ -22,6 +18,20 @@ use Rattle.message.specs.Message.{pitchBend2, polyPressure1, polyPressure2, pro
 -- the controller that resets all others (02 M-101)
 abbrev pub reset : ℕ
 reset = 121
+
+-- what a control change is about
+pub data Control : Type 0 where
+  BankHigh : Control
+  BankLow : Control
+  RegisteredBank : Control
+  RegisteredIndex : Control
+  AssignableBank : Control
+  AssignableIndex : Control
+  DataHigh : Control
+  DataLow : Control
+  Nothing : Control
+  Reset : Control
+  Plain : Control
 
 -- what each control change does (RULES 6.3); all that are not named here are plain
 unfoldable pub controlOf : ℕ → Control
@@ -105,10 +115,6 @@ lift r (pitchBend1 v) = speaks r (pitchBend2 (up 14 32 v))
 abbrev pub endsNotes : ℕ → Bool
 endsNotes i = eqb i 120 || eqb i 123
 
--- the first four channel mode messages
-abbrev pub channelMode : ℕ → Bool
-channelMode i = leb 120 i && leb i 123
-
 -- what a control change, and what a message does to its channel's record
 unfoldable pub plainEffect : ℕ → ℕ
 plainEffect i = cond (endsNotes i) releasesAll leaves
@@ -135,6 +141,6 @@ effectOf (programChange1 p) = remembers
 effectOf (channelPressure1 v) = leaves
 effectOf (pitchBend1 v) = leaves
 
--- the status that a note is sent with
+-- the status that a note is sent with: without velocity it is a Note Off
 unfoldable pub shownStatus : ℕ → ℕ → ℕ
-shownStatus s v = cond (eqb s 9 && eqb v 0) 8 s
+shownStatus s v = cond (eqb v 0) 8 s

@@ -4,6 +4,7 @@
 // `lifted` is total. What it says of a memory that is not sound no call sends: soundness is asked
 // first, one crate above.
 use effect::LEAVES;
+use effect::RELEASES;
 use effect::RELEASES_ALL;
 use effect::REMEMBERS;
 use memory::MISSING;
@@ -21,9 +22,30 @@ ghost use Rattle.ump.specs.Word.{channelOf, groupOf, voice2};
 ghost use Rattle.ump.specs.Word;
 ghost use Rattle.message.specs.Message.{controlChange1, programChange1, read1, voiceWord};
 ghost use Rattle.effect.specs.Effect.{leaves, remembers};
-ghost use Rattle.lift.specs.Lift.{channelMode, controlOf, dataHigh, dataLow, enters, plainEffect, shownStatus};
+ghost use Rattle.lift.specs.Lift.{dataHigh, dataLow, enters, shownStatus};
 ghost use Rattle.lift.specs.Lift;
 ghost use Rattle.lift.specs.Values.{controlIn, messageIn, noteIn, saying, silent};
+
+// The controllers that are parts of a bank, of an address, or of the data that goes to it.
+const BANK_HIGH: u8 = 0;
+
+const DATA_HIGH: u8 = 6;
+
+const BANK_LOW: u8 = 32;
+
+const DATA_LOW: u8 = 38;
+
+const INCREMENT: u8 = 96;
+
+const DECREMENT: u8 = 97;
+
+const ASSIGNABLE_INDEX: u8 = 98;
+
+const ASSIGNABLE_BANK: u8 = 99;
+
+const REGISTERED_INDEX: u8 = 100;
+
+const REGISTERED_BANK: u8 = 101;
 
 // The controllers that release every key, and between them the one that resets all others.
 const ALL_SOUND_OFF: u8 = 120;
@@ -40,21 +62,6 @@ pub struct UpwardMessage {
     pub sends: bool,
     pub first: u32,
     pub second: u32,
-}
-
-// What a control change does.
-pub enum Control {
-    BankHigh,
-    BankLow,
-    RegisteredBank,
-    RegisteredIndex,
-    AssignableBank,
-    AssignableIndex,
-    DataHigh,
-    DataLow,
-    Nothing,
-    Reset,
-    Plain,
 }
 
 // Nothing is sent.
@@ -89,25 +96,6 @@ fn sent_up(
         sends: true,
         first: voice_word(MIDI2_VOICE, status, a, b, w),
         second,
-    }
-}
-
-fn control_of(i: u8) -> Control
-    ensures { λ r. ⌜ r ≡ controlOf i ⌝ }
-{
-    match i {
-        0 => Control::BankHigh,
-        32 => Control::BankLow,
-        101 => Control::RegisteredBank,
-        100 => Control::RegisteredIndex,
-        99 => Control::AssignableBank,
-        98 => Control::AssignableIndex,
-        6 => Control::DataHigh,
-        38 => Control::DataLow,
-        96 => Control::Nothing,
-        97 => Control::Nothing,
-        RESET => Control::Reset,
-        _ => Control::Plain,
     }
 }
 
@@ -169,23 +157,6 @@ fn data_low(memory: Memory, w: u32) -> UpwardMessage
     }
 }
 
-// The first four channel mode messages, three of which have an effect.
-fn is_channel_mode(i: u8) -> bool
-    ensures { λ r. ⌜ r ≡ channelMode i ⌝ }
-{
-    (ALL_SOUND_OFF <= i) & (i <= ALL_NOTES_OFF)
-}
-
-fn plain_effect(i: u8) -> u32
-    ensures { λ r. ⌜ r ≡ plainEffect i ⌝ }
-{
-    if (i == ALL_SOUND_OFF) | (i == ALL_NOTES_OFF) {
-        RELEASES_ALL
-    } else {
-        LEAVES
-    }
-}
-
 // A controller that is sent as itself, with the memory after it.
 fn plain(after: Memory, effect: u32, w: u32) -> UpwardMessage
     ensures { λ r. ⌜ r ≡ controlIn w effect (Lift.plain after (Word.data1 w) (Word.data2 w)) ⌝ }
@@ -193,36 +164,27 @@ fn plain(after: Memory, effect: u32, w: u32) -> UpwardMessage
     sent_up(after, effect, 11, data1(w), 0, w, seven_bits(data2(w)))
 }
 
-fn controlled(control: Control, memory: Memory, w: u32) -> UpwardMessage
-    ensures { λ r. ⌜ r
-        ≡ controlIn w (Lift.controlEffect control (Word.data1 w))
-        (Lift.controlled control memory (Word.data1 w) (Word.data2 w)) ⌝ }
-{
-    let v = data2(w);
-    match control {
-        Control::BankHigh => taken_in(memory.with_bank_high(v), REMEMBERS),
-        Control::BankLow => taken_in(memory.with_bank_low(v), REMEMBERS),
-        Control::RegisteredBank => taken_in(memory.with_registered_bank(v), REMEMBERS),
-        Control::RegisteredIndex => taken_in(memory.with_registered_index(v), REMEMBERS),
-        Control::AssignableBank => taken_in(memory.with_assignable_bank(v), REMEMBERS),
-        Control::AssignableIndex => taken_in(memory.with_assignable_index(v), REMEMBERS),
-        Control::DataHigh => data_high(memory, w),
-        Control::DataLow => data_low(memory, w),
-        Control::Nothing => taken_in(memory, LEAVES),
-        Control::Reset => plain(memory.with_address_closed(), REMEMBERS, w),
-        Control::Plain => plain(memory, plain_effect(data1(w)), w),
-    }
-}
-
-// One test parts the controllers that are sent as themselves and leave the memory from the rest.
+// Each control change by its number; all that are not named here are sent as themselves, and leave the record.
 fn control_change(memory: Memory, w: u32) -> UpwardMessage
     ensures { λ r. ⌜ r ≡ messageIn w memory (controlChange1 (Word.data1 w) (Word.data2 w)) ⌝ }
 {
     let i = data1(w);
-    if message::is_part(i) | is_channel_mode(i) {
-        controlled(control_of(i), memory, w)
-    } else {
-        plain(memory, LEAVES, w)
+    let v = data2(w);
+    match i {
+        BANK_HIGH => taken_in(memory.with_bank_high(v), REMEMBERS),
+        BANK_LOW => taken_in(memory.with_bank_low(v), REMEMBERS),
+        REGISTERED_BANK => taken_in(memory.with_registered_bank(v), REMEMBERS),
+        REGISTERED_INDEX => taken_in(memory.with_registered_index(v), REMEMBERS),
+        ASSIGNABLE_BANK => taken_in(memory.with_assignable_bank(v), REMEMBERS),
+        ASSIGNABLE_INDEX => taken_in(memory.with_assignable_index(v), REMEMBERS),
+        DATA_HIGH => data_high(memory, w),
+        DATA_LOW => data_low(memory, w),
+        INCREMENT => taken_in(memory, LEAVES),
+        DECREMENT => taken_in(memory, LEAVES),
+        RESET => plain(memory.with_address_closed(), REMEMBERS, w),
+        ALL_SOUND_OFF => plain(memory, RELEASES_ALL, w),
+        ALL_NOTES_OFF => plain(memory, RELEASES_ALL, w),
+        _ => plain(memory, LEAVES, w),
     }
 }
 
@@ -242,15 +204,11 @@ fn program(memory: Memory, w: u32) -> UpwardMessage
     }
 }
 
-// A silent Note On is a Note Off.
+// A silent Note On is a Note Off, and so is a silent Note Off.
 fn shown(status: u32, velocity: u8) -> u32
     ensures { λ r. ⌜ r ≡ shownStatus status velocity ⌝ }
 {
-    if (status == 9) & (velocity == 0) {
-        8
-    } else {
-        status
-    }
+    if velocity == 0 { RELEASES } else { status }
 }
 
 // Note Off and Note On, by one row: most messages are of these two. The status that is sent is the

@@ -14,7 +14,6 @@ use stream::Done;
 use stream::NO_TABLE;
 use stream::SENT;
 use stream::report;
-use stream::report_place;
 use voice::EffectAndReport;
 ghost use mathlib.Core.Path.{_≡_};
 ghost use mathlib.Core.Bool.{cond, not, _&&_, _||_};
@@ -221,18 +220,6 @@ fn one(words: &[u32], job: Job, past: Done, table: &mut [Record], out: &mut [u32
     }
 }
 
-fn answer_of(last: bool, answer: u32) -> u32
-    ensures { λ r. ⌜ r ≡ cond last answer sent ⌝ }
-{
-    if last { answer } else { SENT }
-}
-
-fn place_told(once: bool, place: u32) -> u32
-    ensures { λ r. ⌜ r ≡ cond once place 0 ⌝ }
-{
-    if once { place } else { 0 }
-}
-
 // After a call. One that is the only one, or that read nothing, is the last and has the answer; a run that goes on has
 // none yet. Only a call alone has a place.
 fn onward(words: usize, job: Job, past: Done, done: Done) -> Progress
@@ -242,12 +229,18 @@ fn onward(words: usize, job: Job, past: Done, done: Done) -> Progress
     ensures more { λ r. ⌜ r .more
         ≡ (not (job .once || eqb (done .read) (past .read)) && ltb (done .read) words) ⌝ }
 {
-    let last = job.once | (done.read == past.read);
-    let answer = answer_of(last, done.answer);
-    let place = place_told(job.once, done.place);
+    if job.once {
+        return Progress { done, more: false };
+    }
+    if done.read == past.read {
+        return Progress {
+            done: report(done.answer, done.read, done.written),
+            more: false,
+        };
+    }
     Progress {
-        done: report_place(answer, place, done.read, done.written),
-        more: !last & (done.read < words),
+        done: report(SENT, done.read, done.written),
+        more: done.read < words,
     }
 }
 

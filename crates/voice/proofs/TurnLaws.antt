@@ -26,7 +26,7 @@ use Rattle.stream.proofs.CallLaws.{refusal, refused-fits}
 use Rattle.screen.specs.declared.Rule.{Rule}
 use Rattle.screen.specs.declared.Screened.{Screened}
 use Rattle.screen.specs.Screen.{goesOn, screenBy, screenVoice1, screened}
-use Rattle.screen.proofs.ScreenLaws.{cut-only, refused-above, screen-place, screen-word}
+use Rattle.screen.proofs.ScreenLaws.{asks-no-record, cut-only, refused-above, screen-place, screen-word}
 use Rattle.channel.specs.declared.Record.{Record}
 use Rattle.channel.specs.Record.{sound}
 use Rattle.message.specs.Message.{Midi1, Midi2, read1, read2, write1}
@@ -42,7 +42,7 @@ use Rattle.lower.proofs.LowerLaws.{lower-few}
 use Rattle.voice.specs.declared.EffectAndReport.{EffectAndReport}
 use Rattle.voice.specs.Output.{sentWords}
 use Rattle.voice.specs.Packet.{effectAt, onwardOf, packetDownBy, packetIf, sending, sendingDown, speakDown, speakIf, spoken, voiceDown}
-use Rattle.voice.specs.Turn.{effectBy, inRoom, keptBack, next, outputAfter, outputOf, reportAfter, reportOf, turned}
+use Rattle.voice.specs.Turn.{effectBy, found, inRoom, keptBack, next, outputAfter, outputOf, reportAfter, reportOf, turned}
 use Rattle.voice.proofs.PacketLaws.{packet-voice1}
 
 -- up to four words come back from their values
@@ -320,14 +320,35 @@ module _ (rule : Rule) (ok : Bool) (d : Done) (w : ℕ) (r : Record) (out : List
   pub may-speak : (Passes && ok) ≡ true → Acted ≡ spoken r w
   may-speak e = passes-word (and-left Passes ok e) ∙ speaks-sound ok r w (and-right Passes ok e)
 
+  -- the report of one that may not
+  abbrev Kept : Done
+  Kept = keptBack d (found (screenVoice1 rule w) ok)
+
+  kept-unsound : Passes ≡ true → ok ≡ false → Kept ≡ counting notSound (d .read) (d .written)
+  unfolding found keptBack
+  kept-unsound p n = rw (p, n)
+
+  kept-refused : Passes ≡ false
+      → Kept ≡ placing (screenVoice1 rule w .answer) (screenVoice1 rule w .place) (d .read + 1) (d .written)
+  unfolding found keptBack
+  kept-refused p =
+      let n : eqb (screenVoice1 rule w .answer) notSound ≡ false =
+      rw (screen-word rule w v) (asks-no-record rule voice2 (w ∷ [])) in
+      rw (p, n)
+
   pub may-not-speak : (Passes && ok) ≡ false
-      → (record { after = r .memory; effect = leaves; done = keptBack d (screenVoice1 rule w) } ≡ turned d (w ∷ []) out r (effectOf (read1 w)) Acted)
+      → (record { after = r .memory; effect = leaves; done = Kept } ≡ turned d (w ∷ []) out r (effectOf (read1 w)) Acted)
       × (out ≡ outputOf d out Acted)
-  unfolding keptBack
   may-not-speak e =
       by-bool Passes
-      (λ p. rw (p, passes-word p) (speaks-unsound ok d w r out (rw p at e)))
-      (λ p. rw p (check-refused rule ok d w r out (screenVoice1 rule w) v refl (eqb-false (screenVoice1 rule w .answer) goesOn p)))
+      (λ p. rw (kept-unsound p (rw p at e), passes-word p) (speaks-unsound ok d w r out (rw p at e)))
+      (λ p. rw (kept-refused p) (check-refused rule ok d w r out (screenVoice1 rule w) v refl (eqb-false (screenVoice1 rule w .answer) goesOn p)))
+
+-- it may speak where nothing is found that refuses it
+pub found-nothing : (s : Screened) (ok : Bool) → eqb (found s ok .answer) goesOn ≡ (eqb (s .answer) goesOn && ok)
+unfolding found
+found-nothing s true = by-bool (eqb (s .answer) goesOn) (λ e. rw (e, e)) (λ e. rw (e, e))
+found-nothing s false = by-bool (eqb (s .answer) goesOn) (λ e. rw e) (λ e. rw (e, e))
 
 -- and the packet that is one
 pub voice-turn : (rule : Rule) (ok : Bool) (d : Done) (ws out : List ℕ) (r : Record) (x : EffectAndReport) (o : List ℕ) → messageType (getD ws (d .read) 0) ≡ voice1

@@ -1,6 +1,6 @@
 -- A call in the middle of a stream: after what was read and written so far, into an output that may already hold words.
 use Prim.Native.Nat.{ℕ, _+_, _-_}
-use mathlib.Core.Bool.{cond}
+use mathlib.Core.Bool.{Bool, cond, not, _&&_}
 use mathlib.Core.List.{List}
 use lib.ListN.{drop, length}
 use lib.Dec.{eqb, leb}
@@ -11,7 +11,7 @@ use Rattle.stream.specs.Answers.{noRoom, notSound, sent, takenIn}
 use Rattle.stream.specs.Call.{Call, answerOf, fit, leftOf, sentOf}
 use Rattle.stream.specs.Report.{counting, further, placing}
 use Rattle.screen.specs.declared.Screened.{Screened}
-use Rattle.screen.specs.Screen.{goesOn}
+use Rattle.screen.specs.Screen.{answering, goesOn}
 use Rattle.channel.specs.declared.Record.{Record}
 use Rattle.effect.specs.Effect.{leaves}
 use Rattle.voice.specs.declared.EffectAndReport.{EffectAndReport}
@@ -44,10 +44,15 @@ turned d p out r may c =
       done = reportOf d p out c;
     }
 
--- the report of a MIDI 1.0 voice message that may not speak: its record is not sound, or the screening refuses it
+-- What is found of a MIDI 1.0 voice message: what the screening finds, and where that lets it go on, that its record is
+-- not sound, unless `ok` says that it is.
+unfoldable pub found : Screened → Bool → Screened
+found s ok = cond (eqb (s .answer) goesOn && not ok) (answering notSound) s
+
+-- the report of one that may not speak: it is read, unless its record is not sound
 unfoldable pub keptBack : Done → Screened → Done
 keptBack d s =
-    cond (eqb (s .answer) goesOn) (counting notSound (d .read) (d .written))
+    cond (eqb (s .answer) notSound) (counting notSound (d .read) (d .written))
     (placing (s .answer) (s .place) (d .read + 1) (d .written))
 
 -- A row of words for an output from a place on, which holds them all or none; and what a packet of n words that sends

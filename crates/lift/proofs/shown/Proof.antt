@@ -9,5 +9,5 @@ unfolding shownStatus
 shown-spec =
     tie.close
     (tie.spec
-    (λ c. simp (tests, c .if1 .taken))
+    (λ c. simp (c .if1 .taken))
     (λ c. simp (tests, c .if1 .left)))

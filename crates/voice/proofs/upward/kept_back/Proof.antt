@@ -1,5 +1,4 @@
--- `voice::upward::kept_back` meets its contract: a word that passes the screening is kept back by its record.
--- Assumes nothing.
+-- `voice::upward::kept_back` meets its contract: only a record that is not sound keeps the word unread. Assumes nothing.
 use Rattle.ground.proofs.Tests.{tests}
 use Rattle.voice.specs.Turn.{keptBack}
 use borrow.Author.Needs.{needs}
@@ -11,6 +10,6 @@ unfolding keptBack
 kept-back-spec =
     tie.close
     (tie.spec
-    (λ c κs. search needs) (λ c κs. search needs) (λ c κs. search needs)
-    (λ c. simp (tests, ← c .before .before .before .screen-voice1 .ensures, c .before .if1 .taken, c .report .ensures))
-    (λ c. simp (tests, ← c .before .before .before .screen-voice1 .ensures, c .before .if1 .left, c .refuse .ensures)))
+    (λ c κs. search needs) (λ c κs. search needs)
+    (λ c. simp (c .before .if1 .taken, c .report .ensures))
+    (λ c. simp (tests, c .before .if1 .left, c .refuse .ensures)))

@@ -1,27 +1,44 @@
--- `voice::upward::may_speak` meets its contract: with the record known and no rule, the word alone is asked.
--- Assumes nothing.
-use mathlib.Core.Path.{sym, _∙_}
-use mathlib.Core.Bool.{not}
+-- `voice::upward::may_speak` meets its contract: a word that does not go on goes on under no rule, and with the record
+-- known and no rule nothing else is asked. Assumes nothing.
+use mathlib.Core.Path.{sym, ap, _∙_}
+use mathlib.Core.Bool.{not, _||_}
 use lib.Dec.{eqb}
 use borrow.Author.Tests.{not-true}
-use Rattle.ground.proofs.Bools.{and-left, and-right, and-true}
-use Rattle.screen.specs.Screen.{checkVoice1, goesOn}
-use Rattle.screen.proofs.ScreenLaws.{unruled-word}
+use Rattle.ground.proofs.Bools.{and-left, and-right}
+use Rattle.channel.specs.Record.{sound}
+use Rattle.screen.specs.declared.Screened.{Screened}
+use Rattle.screen.specs.Screen.{goesOn, screenVoice1}
+use Rattle.screen.proofs.ScreenLaws.{bad-word, unruled-word}
+use Rattle.voice.proofs.TurnLaws.{found-nothing}
 use borrow.Author.Needs.{needs}
 use Rattle.voice.proofs.upward.may_speak.Statement.{statement}
 use Rattle.voice.proofs.upward.may_speak.Tie as tie
 
 returns : tie.Need-returns
 returns c =
-    let a = c .before .before .before .args in
-    let r = c .before .before .is-ruled in
-    let t = c .before .if1 .taken in
-    rw (unruled-word (a .rule) (a .w) (sym (r .ensures) ∙ not-true (r .result) (and-right (a .known) (not (r .result)) t)), and-left (a .known) (not (r .result)) t, and-true (eqb (checkVoice1 (a .w) .answer) goesOn)) (c .voice1-goes-on .ensures)
+    let a = c .before .before .before .before .args in
+    let r = c .before .is-ruled in
+    let g = c .before .before .before .voice1-goes-on in
+    let t = c .if2 .taken in
+    rw (unruled-word (a .rule) (a .w) (sym (r .ensures) ∙ not-true (r .result) (and-right (a .known) (not (r .result)) t)), and-left (a .known) (not (r .result)) t, sym (g .ensures) ∙ c .before .before .if1 .taken)
+
+returns-2 : tie.Need-returns-2
+returns-2 c =
+    let a = c .before .before .before .before .before .before .before .args in
+    ap (λ (s : Screened). eqb (s .answer) goesOn) (c .before .asked .ensures)
+    ∙ found-nothing (screenVoice1 (a .rule) (a .w)) (a .known || sound (a .«record»))
+
+returns-3 : tie.Need-returns-3
+returns-3 c =
+    let s = c .before .before in
+    rw (bad-word (s .args .rule) (s .args .w) (s .pre) (sym (c .before .voice1-goes-on .ensures) ∙ c .if1 .left))
 
 pub may-speak-spec : {M : Type 1} → statement M
 may-speak-spec =
     tie.close
     (tie.spec
-    (λ c κs. search needs) (λ c κs. search needs) (λ c κs. search needs)
+    (λ c κs. search needs) (λ c κs. search needs)
     returns
-    (λ c. search needs))
+    (λ c κs. search needs)
+    returns-2
+    returns-3)

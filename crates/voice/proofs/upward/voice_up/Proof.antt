@@ -18,16 +18,17 @@ returns c =
 
 returns-2 : tie.Need-returns-2
 returns-2 c =
-    let s = c .before .before .before .before .before in
+    let s = c .before .before .before .before .before .before .before in
     let a = s .args in
-    let m = c .before .before .before .may-speak in
-    rw (c .stays .ensures, c .before .kept-back .ensures)
-    (may-not-speak (a .rule) (a .known || sound (a .«record»)) (a .past) (a .w) (a .«record») (now (a .out)) (s .pre .1) (sym (m .ensures) ∙ c .before .before .if1 .left))
+    let m = c .before .before .before .before .before .may-speak in
+    rw (c .stays .ensures, c .before .kept-back .ensures, c .before .before .asked .ensures)
+    (may-not-speak (a .rule) (a .known || sound (a .«record»)) (a .past) (a .w) (a .«record») (now (a .out)) (s .pre .1) (sym (m .ensures) ∙ c .before .before .before .before .if1 .left))
 
 pub voice-up-spec : {M : Type 1} → statement M
 voice-up-spec =
     tie.close
     (tie.spec
-    (λ c κs. search needs) (λ c κs. search needs) (λ c κs. search needs) (λ c κs. search needs) (λ c. search needs)
+    (λ c κs. c .before .pre .1) (λ c κs. search needs) (λ c κs. search needs) (λ c κs. search needs)
+    (λ c κs. search needs) (λ c. search needs)
     returns
     returns-2)
