@@ -174,12 +174,17 @@ fn start(n: usize, words: usize, job: Job) -> Progress
     }
 }
 
-// Where the next packet's record stands.
+// Where the next packet's record stands, and 0 past the end. It is worked out beside the word, which is then read once.
 fn place_of(words: &[u32], past: Done) -> usize
     ensures { λ r. ⌜ r ≡ placeOf (getD (now (words .entry)) (past .read) 0) ⌝ }
 {
-    let w = ump::word_at(words, past.read);
-    ump::record_number(ump::group_of(w), ump::channel_of(w))
+    let at = past.read;
+    if at < words.len() {
+        let w = words[at];
+        ump::record_number(ump::group_of(w), ump::channel_of(w))
+    } else {
+        0
+    }
 }
 
 // The key of the next packet, if it is a note.
