@@ -109,19 +109,22 @@ fn asked(memory: Memory, known: bool, w: u32, rule: Rule) -> Screened
     }
 }
 
-// Whether nothing is found that refuses it. The word is asked first, which is all where the record is known and no rule
-// asks anything, as in most runs.
+// Whether nothing is found that refuses it. The word is asked first, and nothing else where the record is known and no
+// rule asks anything, as in most runs.
 fn may_speak(record: Record, known: bool, w: u32, rule: Rule) -> bool
     requires { ⌜ messageType w ≡ voice1 ⌝ }
     ensures { λ r. ⌜ r ≡ (eqb (screenVoice1 rule w .answer) goesOn && (known || sound «record»)) ⌝ }
 {
+    let memory = record.memory;
     if screen::voice1_goes_on(w) {
         if known & !screen::is_ruled(rule) {
             return true;
         }
-        let memory = record.memory;
-        let found = asked(memory, known, w, rule);
-        found.answer == GOES_ON
+        if screen::is_ruled(rule) {
+            let found = asked(memory, known, w, rule);
+            return found.answer == GOES_ON;
+        }
+        memory.is_sound()
     } else {
         false
     }
