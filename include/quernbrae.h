@@ -192,8 +192,8 @@ uint32_t quernbrae_mark_coarse(quernbrae_record *table, size_t table_len,
 
 /* Two hosts on one box (docs/RULES.md, 2.6). Number g of owners is the host that has group g: 1 or 2; any other number,
  * and a group past the end of the list, is nobody's. A host other than 1 and 2 owns nothing. What follows is as without
- * a host, but a packet that has a group, and one that is not the host's, is answered 13, after 5 and before 6, and a run
- * goes on after it. Nothing that a host is answered, sent or left depends on what the other one does. */
+ * a host, but a packet that has a group, and one that is not the host's, is answered 13, after 5 and before 6, and a
+ * run goes on after it. Nothing that a host is answered, sent or left depends on what the other one does. */
 quernbrae_done quernbrae_host_up(uint8_t host, const uint8_t *owners, size_t owners_len,
                                  const uint32_t *words, size_t words_len,
                                  quernbrae_record *table, size_t table_len,

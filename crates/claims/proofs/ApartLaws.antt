@@ -39,7 +39,7 @@ use Rattle.claims.specs.TwoHosts.{Agree, Apart, Box, Event, Seen, answer
 use Rattle.claims.specs.TwoHosts.{callUp, counting, counts, gives, isBy, marks, runDown, runUp, seen, sees, shown}
 use Rattle.claims.specs.TwoHosts.{told}
 use Rattle.claims.proofs.StepLaws.{has-words, table-cases, up-length}
-use Rattle.claims.proofs.StreamLaws.{standing}
+use Rattle.stream.proofs.CutLaws.{standing}
 
 -- ---- owners
 

@@ -33,7 +33,7 @@ use Rattle.handover.proofs.HandoverLaws.{given-empty, other-owner, others-stay,
 use Rattle.hosts.specs.Hosts.{groupsBelow, hostDown, hostKeysAsked, hostKeysTold, hostMarkAnswer, hostRule, hostRunUp, hostUp, owns}
 use Rattle.hosts.proofs.HostLaws.{fence}
 use Rattle.claims.specs.RoundTrip.{Gated, GatedDown, StillPasses}
-use Rattle.claims.specs.Refusals.{numbered}
+use Rattle.stream.specs.Cases.{numbered}
 use Rattle.claims.specs.TwoHosts.{ChangeOfHands, OneHost, TwoHosts, casesGive, casesHostDown, casesHostMark}
 use Rattle.claims.specs.TwoHosts.{casesHostUp, casesNamed, foreign}
 use Rattle.claims.proofs.ApartLaws.{proved-apart}
@@ -42,7 +42,7 @@ use Rattle.claims.proofs.RefusalLaws.{after-down, after-up, down-answer
 use Rattle.claims.proofs.RoomLaws.{down-roomy, up-roomy}
 use Rattle.claims.proofs.RoundTrip.{marked-blank, proved-round-trip-fenced}
 use Rattle.claims.proofs.StepLaws.{table-cases}
-use Rattle.claims.proofs.StreamLaws.{standing}
+use Rattle.stream.proofs.CutLaws.{standing}
 use Rattle.claims.proofs.TakenBack.{lower-fits}
 
 module _ (h : ℕ) (o : List ℕ) where

@@ -1,4 +1,3 @@
-pub mod StreamLaws
 pub mod StepLaws
 pub mod WordLaws
 pub mod TakenBack
@@ -16,5 +15,4 @@ pub mod LessonLaws
 pub mod BeginnersLaws
 pub mod ApartLaws
 pub mod HostLaws
-pub mod Pieces
 pub mod OnePupilLaws

@@ -29,7 +29,7 @@ use Rattle.question.specs.Question.{inRange, placeAsked}
 use Rattle.mark.specs.Mark.{markAnswer, named, recordOf, tableMarked}
 use Rattle.mark.proofs.LessonLaws.{Bare, bare}
 use Rattle.mark.proofs.PlaceLaws.{named-inside}
-use Rattle.claims.specs.Refusals.{numbered}
+use Rattle.stream.specs.Cases.{numbered}
 use Rattle.claims.specs.Marks.{Coarsely, Marks, Setting, casesMark, markOn}
 
 coarsely : (r : Memory) → sound r ≡ true → marked r ≡ true → Coarsely r

@@ -37,11 +37,11 @@ use Rattle.pupil.proofs.PickLaws.{pick-inside, voice-size}
 use Rattle.mark.specs.Mark.{recordOf}
 use Rattle.claims.specs.OnePupil.{Apart, Fair, OnePupil, Outcome, Roomed, outcomeOn, packetsOn, wordsOn}
 use Rattle.claims.proofs.PacketByPacket.{proved-packet-by-packet}
-use Rattle.claims.proofs.Pieces.{Short, Tidy, cut-tidy}
+use Rattle.stream.proofs.Pieces.{Short, Tidy, cut-tidy}
 use Rattle.claims.proofs.PictureLaws.{other-place, own-place}
 use Rattle.claims.proofs.SoundnessLaws.{proved-soundness}
 use Rattle.claims.proofs.StepLaws.{has-words, table-cases, up-length}
-use Rattle.claims.proofs.StreamLaws.{cut-all, cut-joined, standing}
+use Rattle.stream.proofs.CutLaws.{cut-all, cut-joined, standing}
 
 -- a whole table of sound records
 record Fine (t : List Record) : Type 0 where

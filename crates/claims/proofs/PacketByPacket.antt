@@ -23,7 +23,7 @@ use Rattle.voice.specs.Packet.{callDownBy, runDownBy}
 use Rattle.table.specs.Table.{runUp, tableBy, tableUp}
 use Rattle.claims.specs.PacketByPacket.{ByPackets, PacketByPacket}
 use Rattle.claims.proofs.StepLaws.{down-stops, up-length, up-stops}
-use Rattle.claims.proofs.StreamLaws.{cut-all, cut-joined}
+use Rattle.stream.proofs.CutLaws.{cut-all, cut-joined}
 
 abbrev NotSent : ℕ → Type 0
 NotSent a = a ≡ sent → ⊥

@@ -38,7 +38,7 @@ use Rattle.claims.specs.Picture.{pressedBy, saidOf}
 use Rattle.claims.proofs.RefusalLaws.{proved-refusals}
 use Rattle.claims.proofs.PacketByPacket.{stays-whole}
 use Rattle.claims.proofs.StepLaws.{has-words, refuses-above, table-cases}
-use Rattle.claims.proofs.StreamLaws.{standing}
+use Rattle.stream.proofs.CutLaws.{standing}
 
 -- a run is that over the packets with a table that is not whole too: the first call stops
 left-by-run : (room : ℕ) (t : List Record) (s : List ℕ)

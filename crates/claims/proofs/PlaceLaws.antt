@@ -22,7 +22,7 @@ use Rattle.lower.specs.Lower.{lower}
 use Rattle.voice.specs.Packet.{callDown}
 use Rattle.table.specs.Table.{tableUp}
 use Rattle.claims.specs.Places.{PlaceTold, Places}
-use Rattle.claims.specs.Refusals.{case, numbered}
+use Rattle.stream.specs.Cases.{case, numbered}
 use Rattle.claims.proofs.RefusalLaws.{proved-refusals}
 
 told : {T : Type 0} (p : List ℕ) (c : Call T) → (answerOf c ≡ badData → badPlaceOf p ≡ 0 → ⊥) → PlaceTold p c

@@ -28,8 +28,9 @@ use Rattle.lower.specs.Lower.{lower}
 use Rattle.voice.specs.Packet.{callDownBy}
 use Rattle.voice.proofs.PacketLaws.{down-cases, few-down}
 use Rattle.table.specs.Table.{tableBy}
-use Rattle.claims.specs.Refusals.{ByAnswer, Case, Refusals, case, numbered}
-use Rattle.claims.proofs.StreamLaws.{standing}
+use Rattle.stream.specs.Cases.{Case, case, numbered}
+use Rattle.claims.specs.Refusals.{ByAnswer, Refusals}
+use Rattle.stream.proofs.CutLaws.{standing}
 use Rattle.claims.proofs.StepLaws.{has-words, reads-words, refuses-above, table-cases, up-calls}
 
 -- the cases of the screening under a rule, of which the open one has neither 13 nor 23

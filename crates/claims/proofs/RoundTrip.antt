@@ -42,7 +42,7 @@ use Rattle.claims.specs.RoundTrip.{StillPasses}
 use Rattle.claims.proofs.RoundLaws.{Again, Came, Fit, Undone, came-none, came-packet, nothing}
 use Rattle.claims.proofs.RoundLaws.{packet as a-packet, round}
 use Rattle.claims.proofs.StepLaws.{has-words, table-cases}
-use Rattle.claims.proofs.StreamLaws.{standing}
+use Rattle.stream.proofs.CutLaws.{standing}
 use Rattle.claims.proofs.TakenBack.{liftAll, liftAll-marks, liftAll-sound, asList, lower-fits, taken-back}
 use Rattle.claims.proofs.WordLaws.{good1, good2}
 

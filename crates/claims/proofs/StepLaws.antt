@@ -25,7 +25,7 @@ use Rattle.voice.specs.Packet.{callBy, callDownBy}
 use Rattle.voice.proofs.PacketLaws.{UpCases, down-cases, down-does, few-down, up-cases, up-does}
 use Rattle.table.specs.Table.{stored, tableBy}
 use Rattle.table.proofs.KeptLaws.{table-does}
-use Rattle.claims.proofs.StreamLaws.{standing}
+use Rattle.stream.proofs.CutLaws.{standing}
 
 -- a packet that goes on has words; and a refusal is above `takenIn`, and reads a packet that has words, or none
 pub has-words : (rule : Rule) (wrong : ℕ) (p : List ℕ) → screenBy rule wrong p .answer ≡ goesOn → 1 ≤ length p

@@ -19,7 +19,8 @@ use Rattle.channel.specs.declared.Record.{Record}
 use Rattle.channel.specs.Record.{EmptyButMarks, empty, sound, wholeTable}
 use Rattle.table.specs.Table.{beginnersOneUp, beginnersRunUp, beginnersUp, tableAfter}
 use Rattle.claims.specs.PacketByPacket.{ByPackets}
-use Rattle.claims.specs.Refusals.{ByAnswer, Case, case, casesOf, numbered}
+use Rattle.stream.specs.Cases.{Case, case, numbered}
+use Rattle.claims.specs.Refusals.{ByAnswer, casesOf}
 use Rattle.claims.specs.Room.{Roomy}
 use Rattle.claims.specs.RoundTrip.{Gated, Returns}
 

@@ -18,7 +18,7 @@ use Rattle.lift.specs.Lift.{addressed2, lift, quiet, speaks}
 use Rattle.table.specs.Table.{SoundTable, oneUp, runUp, tableAfter}
 use Rattle.question.specs.Question.{inRange, placeAsked}
 use Rattle.mark.specs.Mark.{markAnswer, recordOf, tableMarked}
-use Rattle.claims.specs.Refusals.{Case, case, numbered}
+use Rattle.stream.specs.Cases.{Case, case, numbered}
 
 -- the mark at a place of a table
 abbrev pub markOn : List Record → ℕ → ℕ

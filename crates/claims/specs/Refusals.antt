@@ -9,6 +9,7 @@ use Rattle.ump.specs.Word.{messageType, placeOf, voice1, voice2}
 use Rattle.ump.specs.Packet.{first, packet, second, size}
 use Rattle.stream.specs.Answers.{badData, badStatus, cutPacket, noForm, noRoom, noTable, notSound, reservedType, sent}
 use Rattle.stream.specs.Answers.{stopsRun, takenIn, wrongProtocol}
+use Rattle.stream.specs.Cases.{Case, case, numbered}
 use Rattle.stream.specs.Call.{Call, answerOf, leftOf, readOf, sentOf, within}
 use Rattle.fields.specs.Check.{checkedFields, goodFields, goodStatus}
 use Rattle.screen.specs.Screen.{reserved}
@@ -18,19 +19,6 @@ use Rattle.message.specs.Message.{read2}
 use Rattle.lower.specs.Lower.{lower}
 use Rattle.voice.specs.Packet.{callDown}
 use Rattle.table.specs.Table.{tableUp}
-
--- An answer, and whether its case holds.
-pub record Case : Type 0 where
-  pub says : ℕ
-  pub holds : Bool
-
-abbrev pub case : ℕ → Bool → Case
-case a b = record { says = a; holds = b }
-
--- the first case that holds; and else `sent`
-abbrev pub numbered : List Case → ℕ
-numbered [] = sent
-numbered (c ∷ cs) = cond (c .holds) (c .says) (numbered cs)
 
 -- the cases that both directions have, at the packet p, in the order of RULES 3.2: 3, 4, 5, 6, 7
 abbrev pub casesOf : ℕ → List ℕ → List Case

@@ -30,8 +30,8 @@ pub record Blank (t : List Record) : Type 0 where
 -- Any stream, up from the table t, down, and up again from the same table, marks and all, each in an output with room
 -- for all: the second stream of MIDI 2.0 words is the first. Packets may be refused on the way, and the last may be
 -- cut.
-abbrev pub ReturnsBy : (ℕ → List Record → List ℕ → Ran (ℕ × List Record)) → (ℕ → List ℕ → Ran (ℕ × Unit {0})) → List Record
-    → Type 0
+abbrev pub ReturnsBy : (ℕ → List Record → List ℕ → Ran (ℕ × List Record)) → (ℕ → List ℕ → Ran (ℕ × Unit {0}))
+    → List Record → Type 0
 ReturnsBy up down t =
     (s : List ℕ) (a b c : ℕ) →
     let x = up a t s in

@@ -27,7 +27,8 @@ use Rattle.handover.specs.Handover.{changesHands, giveAnswer, ownersAfter, tabl
 use Rattle.hosts.specs.Hosts.{hostDown, hostKeysAsked, hostMarkAnswer, hostOneDown, hostOneUp, hostRunDown, hostRunUp}
 use Rattle.hosts.specs.Hosts.{hostTableMarked, hostUp, owns}
 use Rattle.claims.specs.PacketByPacket.{ByPackets}
-use Rattle.claims.specs.Refusals.{ByAnswer, Case, case, numbered}
+use Rattle.stream.specs.Cases.{Case, case, numbered}
+use Rattle.claims.specs.Refusals.{ByAnswer}
 use Rattle.claims.specs.Room.{Roomy}
 use Rattle.claims.specs.RoundTrip.{Gated, ReturnsBy}
 

@@ -3,3 +3,4 @@ pub mod Call
 pub mod Run
 pub mod Report
 pub mod Claims
+pub mod Cases

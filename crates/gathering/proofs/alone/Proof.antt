@@ -1,7 +1,0 @@
--- `gathering::alone` meets its contract: the claim is proved in proofs/AloneLaws.antt. Assumes nothing.
-use Rattle.gathering.proofs.AloneLaws.{proved-alone}
-use Rattle.gathering.proofs.alone.Statement.{statement}
-use Rattle.gathering.proofs.alone.Tie as tie
-
-pub alone-spec : {M : Type 1} → statement M
-alone-spec = tie.close (tie.spec (λ c. proved-alone))

@@ -1,7 +1,0 @@
--- `gathering::dropped` meets its contract: the claim is proved in proofs/DroppedLaws.antt. Assumes nothing.
-use Rattle.gathering.proofs.DroppedLaws.{proved-dropped}
-use Rattle.gathering.proofs.dropped.Statement.{statement}
-use Rattle.gathering.proofs.dropped.Tie as tie
-
-pub dropped-spec : {M : Type 1} → statement M
-dropped-spec = tie.close (tie.spec (λ c. proved-dropped))

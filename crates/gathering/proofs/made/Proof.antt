@@ -1,7 +1,0 @@
--- `gathering::made` meets its contract: the claim is proved in proofs/MadeLaws.antt. Assumes nothing.
-use Rattle.gathering.proofs.MadeLaws.{proved-made}
-use Rattle.gathering.proofs.made.Statement.{statement}
-use Rattle.gathering.proofs.made.Tie as tie
-
-pub made-spec : {M : Type 1} → statement M
-made-spec = tie.close (tie.spec (λ c. proved-made))

@@ -1,7 +1,0 @@
--- `sockets::every_byte`: the claim is proved in proofs/EveryByteLaws.antt.
-use Rattle.sockets.proofs.EveryByteLaws.{proved-every-byte}
-use Rattle.sockets.proofs.every_byte.Statement.{statement}
-use Rattle.sockets.proofs.every_byte.Tie as tie
-
-pub every-byte-spec : {M : Type 1} → statement M
-every-byte-spec = tie.close (tie.spec (λ c. proved-every-byte))

@@ -1,7 +1,0 @@
--- `sockets::voice_returns`: the claim is proved in proofs/VoiceLaws.antt.
-use Rattle.sockets.proofs.VoiceLaws.{proved-voice}
-use Rattle.sockets.proofs.voice_returns.Statement.{statement}
-use Rattle.sockets.proofs.voice_returns.Tie as tie
-
-pub voice-returns-spec : {M : Type 1} → statement M
-voice-returns-spec = tie.close (tie.spec (λ c. proved-voice))
