@@ -166,17 +166,20 @@ Holds h qs = (h .chain .length ≡ length (payloads qs)) × (take (h .chain .len
 -- the last start.
 abbrev pub Made : Type 0
 Made =
-    (k : ℕ) (w : World) (ps : List (List ℕ)) (z : List ℕ) → k < 32 → All32 w → chainAt k (w .chains) .packets ≡ 0 →
-    chainOf z ≡ k → answer (run w ps) z ≡ sent → Holds (heldAt k (after (run w ps) z)) (since [] (only k ps ++ z ∷ []))
+    (k : ℕ) (w : World) (ps : List (List ℕ)) (z : List ℕ)
+    → k < 32 → All32 w → chainAt k (w .chains) .packets ≡ 0 → chainOf z ≡ k
+    → answer (run w ps) z ≡ sent → Holds (heldAt k (after (run w ps) z)) (since [] (only k ps ++ z ∷ []))
 
 -- Packets are counted, those of an exclusive as one: no exclusive has too many, and of Flex Data one is too many where
 -- the chain has 32 since its start.
 pub record Counted : Type 0 where
-  pub number : (k : ℕ) (w : World) (ps : List (List ℕ)) → k < 32 → All32 w → chainAt k (w .chains) .packets ≡ 0
+  pub number : (k : ℕ) (w : World) (ps : List (List ℕ))
+      → k < 32 → All32 w → chainAt k (w .chains) .packets ≡ 0
       → let n = chainAt k (run w ps .chains) .packets in
       (n ≡ 0) ⊎ ((n ≡ cond (ltb k 16) 1 (length (since [] (only k ps)))) × (n ≤ most))
   pub too-many : (k : ℕ) (w : World) (ps : List (List ℕ)) (z : List ℕ)
-      → k < 32 → All32 w → chainAt k (w .chains) .packets ≡ 0 → chainOf z ≡ k → answer (run w ps) z ≡ tooManyPackets
+      → k < 32 → All32 w → chainAt k (w .chains) .packets ≡ 0 → chainOf z ≡ k
+      → answer (run w ps) z ≡ tooManyPackets
       → (16 ≤ k) × (length (since [] (only k ps)) ≡ most)
 
 -- What a refusal leaves of a chain and its part.
@@ -185,7 +188,8 @@ pub record Left (h : Held) (p : List ℕ) : Type 0 where
   pub bytes : takenIn < told h p → one h p .part ≡ h .part
   -- a refused piece drops the chain, whose length is then zero; out of turn with none open nothing is dropped
   pub chain : refusalOf p ≡ goesOn → takenIn < told h p
-      → (one h p .chain ≡ fresh) ⊎ ((told h p ≡ outOfTurn) × (h .chain .packets ≡ 0) × (one h p .chain ≡ h .chain))
+      → (one h p .chain ≡ fresh)
+      ⊎ ((told h p ≡ outOfTurn) × (h .chain .packets ≡ 0) × (one h p .chain ≡ h .chain))
   -- what is refused before its chain is asked changes nothing: so an address that is strange keeps the open chain
   pub kept : (refusalOf p ≡ goesOn → ⊥) → one h p ≡ h
 

@@ -53,7 +53,8 @@ pub record Setting : Type 0 where
       → recordOf (tableMarked t group channel coarse) group channel ≡ withMark (recordOf t group channel) coarse
   pub others : (t : List Record) (group channel coarse k : ℕ) → (k ≡ placeAsked group channel → ⊥)
       → getD (tableMarked t group channel coarse) k empty ≡ getD t k empty
-  pub table : (t : List Record) (group channel coarse : ℕ) → length (tableMarked t group channel coarse) ≡ length t
+  pub table : (t : List Record) (group channel coarse : ℕ)
+      → length (tableMarked t group channel coarse) ≡ length t
   -- so it keeps sound records sound, and of a table that is empty but for marks it makes another
   pub sounds : (t : List Record) (group channel coarse : ℕ) → SoundTable t
       → SoundTable (tableMarked t group channel coarse)
@@ -64,6 +65,8 @@ pub record Marks : Type 0 where
   pub coarsely : (r : Memory) → sound r ≡ true → marked r ≡ true → Coarsely r
   -- no message changes a mark, sound or not; and so no call and no run does, at any place of any table
   pub messages : (r : Memory) (m : Midi1) → lift r m .after .coarse ≡ r .coarse
-  pub calls : (room : ℕ) (t : List Record) (s : List ℕ) (k : ℕ) → markOn (tableAfter (oneUp room t s)) k ≡ markOn t k
-  pub runs : (room : ℕ) (t : List Record) (s : List ℕ) (k : ℕ) → markOn (tableAfter (runUp room t s)) k ≡ markOn t k
+  pub calls : (room : ℕ) (t : List Record) (s : List ℕ) (k : ℕ)
+      → markOn (tableAfter (oneUp room t s)) k ≡ markOn t k
+  pub runs : (room : ℕ) (t : List Record) (s : List ℕ) (k : ℕ)
+      → markOn (tableAfter (runUp room t s)) k ≡ markOn t k
   pub setting : Setting

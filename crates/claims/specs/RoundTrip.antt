@@ -30,14 +30,15 @@ pub record Blank (t : List Record) : Type 0 where
 -- Any stream, up from the table t, down, and up again from the same table, marks and all, each in an output with room
 -- for all: the second stream of MIDI 2.0 words is the first. Packets may be refused on the way, and the last may be
 -- cut.
-abbrev pub ReturnsBy : (ℕ → List Record → List ℕ → Ran (ℕ × List Record)) → (ℕ → List ℕ → Ran (ℕ × Unit {0}))
-    → List Record → Type 0
+abbrev pub ReturnsBy : (ℕ → List Record → List ℕ → Ran (ℕ × List Record))
+    → (ℕ → List ℕ → Ran (ℕ × Unit {0})) → List Record → Type 0
 ReturnsBy up down t =
     (s : List ℕ) (a b c : ℕ) →
     let x = up a t s in
     let y = down b (x .sends) in
     let z = up c t (y .sends) in
-    (x .answer ≡ noRoom → ⊥) → (y .answer ≡ noRoom → ⊥) → (z .answer ≡ noRoom → ⊥) → z .sends ≡ x .sends
+    (x .answer ≡ noRoom → ⊥) → (y .answer ≡ noRoom → ⊥) → (z .answer ≡ noRoom → ⊥)
+    → z .sends ≡ x .sends
 
 abbrev pub Returns : (ℕ → List Record → List ℕ → Ran (ℕ × List Record)) → List Record → Type 0
 Returns up t = ReturnsBy up runDown t
@@ -71,18 +72,20 @@ pub record GatedDown (passes : List ℕ → Bool) (rule : Rule) : Type 0 where
   pub onward : (p : List ℕ) → passes p ≡ true → callDownBy rule tt p ≡ callDown tt p
   pub spoken : (p : List ℕ) (r : Record) (x : Midi2) →
       let w = first p in
-      passes p ≡ true → messageType w ≡ voice1 → sound r ≡ true → lift (r .memory) (read1 w) .sends ≡ some x
+      passes p ≡ true → messageType w ≡ voice1 → sound r ≡ true
+      → lift (r .memory) (read1 w) .sends ≡ some x
       → let q = write2 (groupOf w) (channelOf w) x in callDownBy rule tt q ≡ callDown tt q
 
 -- Demand 3 with the same rule in both passes up, and one going down, for any such rules.
 abbrev pub RoundTripFenced : Type 0
 RoundTripFenced =
-    (passes : List ℕ → Bool) (step : List Record → List ℕ → Call (List Record)) (rule : Rule) → Gated passes step
-    → StillPasses passes → GatedDown passes rule
+    (passes : List ℕ → Bool) (step : List Record → List ℕ → Call (List Record)) (rule : Rule)
+    → Gated passes step → StillPasses passes → GatedDown passes rule
     → (t : List Record) → Blank t → ReturnsBy (runBy step) (runDownBy rule) t
 
 -- And so with the same rule in both passes up, and none going down.
 abbrev pub RoundTripGated : Type 0
 RoundTripGated =
-    (passes : List ℕ → Bool) (step : List Record → List ℕ → Call (List Record)) → Gated passes step → StillPasses passes
+    (passes : List ℕ → Bool) (step : List Record → List ℕ → Call (List Record))
+    → Gated passes step → StillPasses passes
     → (t : List Record) → Blank t → Returns (runBy step) t

@@ -9,7 +9,8 @@ use lib.Dec.{eqb, leb, ltb}
 use Rattle.ump.specs.Word.{groupOf, messageType, placeOf, voice1, voice2}
 use Rattle.ump.specs.Packet.{cut, first, packet, second}
 use Rattle.stream.specs.declared.Done.{Done}
-use Rattle.stream.specs.Answers.{badData, badStatus, cutPacket, noForm, noRoom, noTable, notSound, notYours, outOfRange}
+use Rattle.stream.specs.Answers.{badData, badStatus, cutPacket, noForm, noRoom, noTable, notSound, notYours}
+use Rattle.stream.specs.Answers.{outOfRange}
 use Rattle.stream.specs.Answers.{reservedType, takenIn, wrongProtocol}
 use Rattle.stream.specs.Call.{answerOf, leftOf, sentOf, within}
 use Rattle.stream.specs.Report.{reported, reportedCall}
@@ -76,7 +77,8 @@ casesNamed host owners t group channel =
 
 abbrev pub casesHostMark : ℕ → List ℕ → List Record → ℕ → ℕ → List Case
 casesHostMark host owners t group channel =
-    casesNamed host owners t group channel ++ case notSound (not (sound (getD t (placeAsked group channel) empty))) ∷ []
+    casesNamed host owners t group channel
+    ++ case notSound (not (sound (getD t (placeAsked group channel) empty))) ∷ []
 
 abbrev pub casesGive : List ℕ → List Record → ℕ → ℕ → List Case
 casesGive owners t group host =
@@ -179,8 +181,10 @@ Apart =
 pub record ChangeOfHands (owners : List ℕ) (t : List Record) (group host : ℕ) : Type 0 where
   pub fresh : changesHands owners (length t) group host ≡ true → (k : ℕ) → k / 16 ≡ group
       → getD (tableGiven owners t group host) k empty ≡ empty
-  pub others : (k : ℕ) → (k / 16 ≡ group → ⊥) → getD (tableGiven owners t group host) k empty ≡ getD t k empty
-  pub owner : (i : ℕ) → (i ≡ group → ⊥) → getD (ownersAfter owners (length t) group host) i 0 ≡ getD owners i 0
+  pub others : (k : ℕ) → (k / 16 ≡ group → ⊥)
+      → getD (tableGiven owners t group host) k empty ≡ getD t k empty
+  pub owner : (i : ℕ) → (i ≡ group → ⊥)
+      → getD (ownersAfter owners (length t) group host) i 0 ≡ getD owners i 0
   pub table : length (tableGiven owners t group host) ≡ length t
   pub stays : changesHands owners (length t) group host ≡ false
       → (tableGiven owners t group host ≡ t) × (ownersAfter owners (length t) group host ≡ owners)

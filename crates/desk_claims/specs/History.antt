@@ -63,8 +63,8 @@ pub record HistoryOn (g : Group) (c : Channel) : Type 0 where
   -- and what is answered for a note is worked out from these alone
   pub answered : (ps : List (List ℕ)) (k units cents : ℕ) → k < 128
       → answerAt (heardAll (fresh g c) ps) k units cents
-      ≡ answerAs (askedFor (lastSays (saysSound k) Silent (allSaid g c ps)) (lastSays (saysTuned k) Never (allSaid g c ps))
-      k units cents)
+      ≡ answerAs (askedFor (lastSays (saysSound k) Silent (allSaid g c ps))
+      (lastSays (saysTuned k) Never (allSaid g c ps)) k units cents)
       (lastSays saysBend centre (allSaid g c ps)) units
 
 abbrev pub History : Type 0

@@ -1,6 +1,7 @@
 // Theorems about the rescue of a whole recording. Each stands as a type in specs/ and is proved in
 // proofs/; the functions below do nothing and ensure them, so that a check names each.
-ghost use Rattle.rescue_claims.specs.Rescued.{AddsUp, BufferByBuffer, Headers, KeptExactly, RescuedAgain, TicksRound};
+ghost use Rattle.rescue_claims.specs.Rescued.{AddsUp, BufferByBuffer, Headers, KeptExactly, RescuedAgain};
+ghost use Rattle.rescue_claims.specs.Rescued.{TicksRound};
 
 // What is written is a header, and nothing else is taken for one.
 pub fn headers()
