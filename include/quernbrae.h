@@ -110,10 +110,6 @@ typedef struct {
     uint32_t packets; /* 0 while none is open; an open exclusive has 1 */
 } quernbrae_chain;
 
-typedef struct {
-    quernbrae_chain all[QUERNBRAE_CHAINS];
-} quernbrae_chains;
-
 /* What the collector reports of a packet (13.3). */
 typedef struct {
     uint32_t answer; /* 0, 1, 3, 4, 6, 7, 15, 16, 17 or 18 */
@@ -122,7 +118,6 @@ typedef struct {
     size_t chain;    /* the packet's chain, or QUERNBRAE_NO_CHAIN */
     size_t start;    /* where the part of that chain begins in the buffer */
     size_t length;   /* the bytes that the chain has after the packet: after answer 0 the whole message */
-    quernbrae_chains chains; /* hand these on to the next call */
 } quernbrae_collected;
 
 /* The empty record: no key down, kind none, all five numbers missing, no mark. Fill a table with it before the first
@@ -274,12 +269,14 @@ quernbrae_done quernbrae_run_export(uint8_t group,
                                     uint8_t *out, size_t out_len);
 
 /* The chains before the first packet: none is open. */
-quernbrae_chains quernbrae_chains_closed(void);
+quernbrae_chain quernbrae_chain_closed(void);
 
 /* Collects whole messages (docs/RULES.md, 14): the packet at the start of the words goes into its chain, whose bytes
  * stand in its own part of the buffer, one of 32 of equal length. Answer 0 says that a message is whole: its bytes are
  * the length ones from start on, until the next packet of that chain. */
-quernbrae_collected quernbrae_collect(quernbrae_chains chains, uint8_t *buffer, size_t buffer_len,
+quernbrae_collected quernbrae_collect(quernbrae_chain *chains, size_t chains_len, uint8_t *buffer, size_t buffer_len,
+                                      const uint32_t *words, size_t words_len);
+quernbrae_collected quernbrae_run_collect(quernbrae_chain *chains, size_t chains_len, uint8_t *buffer, size_t buffer_len,
                                       const uint32_t *words, size_t words_len);
 
 /* The form of 16 bits of a maker identity, from its old form (docs/RULES.md, 13): one byte of 1 to 127, or 0 and two

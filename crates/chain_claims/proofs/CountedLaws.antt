@@ -13,8 +13,8 @@ use Rattle.ground.proofs.Cases.{not-both}
 use Rattle.ump.specs.Packet.{packet}
 use Rattle.stream.specs.Answers.{outOfTurn, sent, takenIn, tooLong, tooManyPackets}
 use Rattle.screen.specs.Screen.{goesOn}
+use Rattle.piece.specs.Piece.{Piece}
 use Rattle.chains.specs.declared.Chain.{Chain}
-use Rattle.piece.specs.declared.Piece.{Piece}
 use Rattle.chains.specs.Step.{baseOf, begins, finishes, grown, most, strays, verdict, verdictBy}
 use Rattle.chains.specs.Collect.{chainAt, chainOf, pieceOf, refusalOf}
 use Rattle.chains.proofs.SortLaws.{same-or-not}
