@@ -2,6 +2,7 @@
 //! Read from the build specification, the requests that amend it, and M2-104-UM 1.1.1, sections 7.2
 //! to 7.7 and Appendix D.
 
+pub mod as_c;
 mod cable;
 mod chains;
 mod desk;

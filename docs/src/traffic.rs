@@ -13,14 +13,21 @@
 //! chords of one to three notes with values from a wide range, some with a sweep in between, 15 are
 //! sweeps of a controller, the bend or the pressure by small steps, seven are timing clocks, and one
 //! is a new sound: a bank, a program and the range of the bend.
+//!
+//! What goes down is what runs up send of these words. In the mix one packet in three is another one:
+//! half of those are MIDI 2.0 voices of any status, the others are of any type, and one in twenty has
+//! a flipped bit.
 
 use crate::packets::{packet, Dice};
-use reading::{empty, size, SENT, TAKEN_IN};
+use reading::{empty, run_up, size, SENT, TAKEN_IN};
 
 /// A recipe: its name, and what makes so many words by it.
 pub type Recipe = (&'static str, fn(usize) -> Vec<u32>);
 
 pub const RECIPES: [Recipe; 2] = [("random mix", random_mix), ("played music", played_music)];
+
+/// What goes down.
+pub const RECIPES_DOWN: [Recipe; 2] = [("random mix", mix_down), ("played music", music_down)];
 
 /// Packets of all sorts, some of them refused.
 fn random_mix(length: usize) -> Vec<u32> {
@@ -103,6 +110,50 @@ fn new_sound(dice: &mut Dice, channel: u32, words: &mut Vec<u32>) {
     let program = (dice.below(128) as u32) << 8;
     words.extend([0x20B0_0000, 0x20B0_2001, 0x20C0_0000 | program].map(|word| word | channel));
     words.extend([0x20B0_6500, 0x20B0_6400, 0x20B0_0602, 0x20B0_2600].map(|word| word | channel));
+}
+
+/// What a run up over these words sends.
+fn sent_up(words: &[u32]) -> Vec<u32> {
+    let mut out = vec![0; 2 * words.len()];
+    let done = run_up(words, &mut [empty(); 256], &mut out);
+    out.truncate(done.written);
+    out
+}
+
+/// What is sent of the random mix, and among it packets of all sorts.
+fn mix_down(length: usize) -> Vec<u32> {
+    let mut dice = Dice::new(300);
+    let (sent, mut place) = (sent_up(&random_mix(length)), 0);
+    let mut words = vec![];
+    while words.len() + 4 <= length {
+        if dice.one_in(3) {
+            let any_type = dice.below(16) as u32;
+            let message_type = dice.pick(&[4, any_type]);
+            let mut packet = packet(&mut dice, message_type);
+            if dice.one_in(20) {
+                packet[0] ^= 1 << dice.below(24);
+            }
+            words.extend(&packet[..size(packet[0])]);
+        } else {
+            let end = place + size(sent[place]);
+            words.extend(&sent[place..end]);
+            place = end;
+        }
+    }
+    words.resize(length, 0);
+    words
+}
+
+/// What is sent of the played music.
+fn music_down(length: usize) -> Vec<u32> {
+    let sent = sent_up(&played_music(length));
+    let mut end = 0;
+    while end + size(sent[end]) <= length {
+        end += size(sent[end]);
+    }
+    let mut words = sent[..end].to_vec();
+    words.resize(length, 0x10F8_0000);
+    words
 }
 
 /// Fails unless the words have what the head of this file says of the random mix: packets of every

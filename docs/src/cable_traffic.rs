@@ -1,0 +1,109 @@
+//! The recipes of what is timed on a cable, which follow from the seeds here.
+//!
+//! The bytes that come in are those of a keyboard and its librarian. Nine things of ten are one to
+//! eight voice messages under one status byte, one in fifty is a message of the system, and the rest
+//! are exclusives of up to 200 bytes. Before one byte in twelve stands a clock, in an exclusive too.
+//! One thing in fifty lacks its last byte, so that a message is dropped or an exclusive cut off.
+//!
+//! Of the packets that go out three in five are voices, and the others are messages of the system,
+//! packets of exclusives, and some of any type. One packet in ten is of another group, and one in
+//! fifty has a flipped bit.
+
+use crate::packets::{packet, Dice};
+use reading::size;
+
+/// The group of the cable.
+pub const GROUP: u8 = 5;
+
+const CLOCK: u8 = 0xF8;
+
+/// Lengths of exclusives; most are not a number of full packets.
+const LENGTHS: [usize; 10] = [0, 1, 4, 6, 7, 12, 20, 45, 100, 200];
+
+/// Statuses of voices, which are followed by two data bytes or by one.
+const VOICES: [(u8, usize); 9] = [
+    (0x80, 2),
+    (0x90, 2),
+    (0x90, 2),
+    (0x90, 2),
+    (0xA0, 2),
+    (0xB0, 2),
+    (0xC0, 1),
+    (0xD0, 1),
+    (0xE0, 2),
+];
+
+const COMMON: [(u8, usize); 4] = [(0xF1, 1), (0xF2, 2), (0xF3, 1), (0xF6, 0)];
+
+fn push_data(dice: &mut Dice, count: usize, bytes: &mut Vec<u8>) {
+    bytes.extend((0..count).map(|_| dice.below(128) as u8));
+}
+
+/// Voices, a message of the system or an exclusive.
+fn push_thing(dice: &mut Dice, bytes: &mut Vec<u8>) {
+    match dice.below(50) {
+        0 => {
+            let (status, count) = dice.pick(&COMMON);
+            bytes.push(status);
+            push_data(dice, count, bytes);
+        }
+        1..=4 => {
+            bytes.push(0xF0);
+            let length = dice.pick(&LENGTHS);
+            push_data(dice, length, bytes);
+            bytes.push(0xF7);
+        }
+        _ => {
+            let (status, count) = dice.pick(&VOICES);
+            bytes.push(status | dice.below(16) as u8);
+            let messages = 1 + dice.below(8);
+            push_data(dice, messages * count, bytes);
+        }
+    }
+}
+
+/// So many bytes of a cable.
+pub fn bytes(length: usize) -> Vec<u8> {
+    let mut dice = Dice::new(400);
+    let mut bytes = vec![];
+    while bytes.len() < length {
+        let mut thing = vec![];
+        push_thing(&mut dice, &mut thing);
+        if dice.one_in(50) {
+            thing.pop();
+        }
+        for byte in thing {
+            if dice.one_in(12) {
+                bytes.push(CLOCK);
+            }
+            bytes.push(byte);
+        }
+    }
+    bytes.truncate(length);
+    bytes
+}
+
+/// So many words of packets, most of them for the cable.
+pub fn packets(length: usize) -> Vec<u32> {
+    let mut dice = Dice::new(500);
+    let mut words = vec![];
+    while words.len() + 4 <= length {
+        let any_type = dice.below(16) as u32;
+        let message_type = match dice.below(20) {
+            0..=11 => 2,
+            12..=14 => 1,
+            15..=18 => 3,
+            _ => any_type,
+        };
+        let mut packet = packet(&mut dice, message_type);
+        if !dice.one_in(10) {
+            packet[0] = packet[0] & 0xF0FF_FFFF | u32::from(GROUP) << 24;
+        }
+        if dice.one_in(50) {
+            packet[0] ^= 1 << dice.below(24);
+        }
+        words.extend(&packet[..size(packet[0])]);
+    }
+    words.resize(length, 0);
+    words
+}
