@@ -5,12 +5,12 @@
 //! are exclusives of up to 200 bytes. Before one byte in twelve stands a clock, in an exclusive too.
 //! One thing in fifty lacks its last byte, so that a message is dropped or an exclusive cut off.
 //!
-//! Of the packets that go out three in five are voices, and the others are messages of the system,
-//! packets of exclusives, and some of any type. One packet in ten is of another group, and one in
-//! fifty has a flipped bit.
+//! Of a hundred things that go out 80 are voices, 11 are messages of the system, four are exclusives
+//! of such lengths, and five are packets of any type. One packet in ten is of another group, and one
+//! in fifty has a flipped bit.
 
 use crate::packets::{packet, Dice};
-use reading::size;
+use reading::{size, COMPLETE, CONTINUE, END, START};
 
 /// The group of the cable.
 pub const GROUP: u8 = 5;
@@ -83,27 +83,62 @@ pub fn bytes(length: usize) -> Vec<u8> {
     bytes
 }
 
+/// The packets of an exclusive: a complete one, or a start, full ones and an end.
+fn exclusive(dice: &mut Dice) -> Vec<[u32; 4]> {
+    let length = dice.pick(&LENGTHS);
+    let mut data = vec![];
+    push_data(dice, length, &mut data);
+    let count = length.div_ceil(6).max(1);
+    let mut packets = vec![];
+    for number in 0..count {
+        let form = match (number, number + 1 == count) {
+            (0, true) => COMPLETE,
+            (0, false) => START,
+            (_, false) => CONTINUE,
+            (_, true) => END,
+        };
+        let held = &data[6 * number..length.min(6 * number + 6)];
+        let mut payload = [0; 8];
+        payload[2..2 + held.len()].copy_from_slice(held);
+        let payload = u64::from_be_bytes(payload);
+        let head = 0x3000_0000 | form << 20 | (held.len() as u32) << 16;
+        packets.push([head | (payload >> 32) as u32, payload as u32, 0, 0]);
+    }
+    packets
+}
+
 /// So many words of packets, most of them for the cable.
 pub fn packets(length: usize) -> Vec<u32> {
     let mut dice = Dice::new(500);
     let mut words = vec![];
-    while words.len() + 4 <= length {
+    while words.len() < length {
         let any_type = dice.below(16) as u32;
-        let message_type = match dice.below(20) {
-            0..=11 => 2,
-            12..=14 => 1,
-            15..=18 => 3,
-            _ => any_type,
+        let packets = match dice.below(100) {
+            0..=79 => vec![packet(&mut dice, 2)],
+            80..=90 => vec![packet(&mut dice, 1)],
+            91..=94 => exclusive(&mut dice),
+            _ => vec![packet(&mut dice, any_type)],
         };
-        let mut packet = packet(&mut dice, message_type);
-        if !dice.one_in(10) {
-            packet[0] = packet[0] & 0xF0FF_FFFF | u32::from(GROUP) << 24;
+        for mut packet in packets {
+            if !dice.one_in(10) {
+                packet[0] = packet[0] & 0xF0FF_FFFF | u32::from(GROUP) << 24;
+            }
+            if dice.one_in(50) {
+                packet[0] ^= 1 << dice.below(24);
+            }
+            words.extend(&packet[..size(packet[0])]);
         }
-        if dice.one_in(50) {
-            packet[0] ^= 1 << dice.below(24);
-        }
-        words.extend(&packet[..size(packet[0])]);
     }
+    end_at(length, words)
+}
+
+/// So many words of these: those behind the last packet that ends by then are utility messages.
+fn end_at(length: usize, mut words: Vec<u32>) -> Vec<u32> {
+    let mut end = 0;
+    while end + size(words[end]) <= length {
+        end += size(words[end]);
+    }
+    words.truncate(end);
     words.resize(length, 0);
     words
 }

@@ -65,6 +65,7 @@ impl Guest<'_> {
 }
 
 /// Treats the packet at the start of a host's words, going up.
+#[inline(always)]
 pub fn host_up(
     host: u8,
     owners: &[u8],
@@ -94,6 +95,7 @@ pub fn host_run_up(
 }
 
 /// Treats the packet at the start of a host's words, going down.
+#[inline(always)]
 pub fn host_down(host: u8, owners: &[u8], words: &[u32], out: &mut [u32]) -> Done {
     Guest { host, owners }.down(words, out)
 }

@@ -317,9 +317,9 @@ fn first_bad_of_program(second: u32) -> u32 {
     }
 }
 
-/// Sends the words that a packet of `read` words becomes.
+/// Sends the words that a packet of `read` words becomes, or the bytes.
 #[inline(always)]
-fn send<const COUNT: usize>(read: usize, words: [u32; COUNT], out: &mut [u32]) -> Done {
+fn send<T: Copy, const COUNT: usize>(read: usize, words: [T; COUNT], out: &mut [T]) -> Done {
     match out.get_mut(..COUNT) {
         Some(place) => place.copy_from_slice(&words),
         None => return stopped(OUTPUT_SHORT),
@@ -467,6 +467,7 @@ fn whole_table(table: &mut [Record]) -> Option<&mut [Record; 256]> {
 }
 
 /// Treats the packet at the start of the words, going up.
+#[inline(always)]
 pub fn up(words: &[u32], table: &mut [Record], out: &mut [u32]) -> Done {
     match whole_table(table) {
         Some(table) => up_packet::<LENT, ANY_ROOM>(words, table, out),
@@ -490,6 +491,7 @@ pub fn run_up(words: &[u32], table: &mut [Record], out: &mut [u32]) -> Done {
 }
 
 /// Treats the packet at the start of the words, going up in the beginners' room.
+#[inline(always)]
 pub fn beginners_up(words: &[u32], table: &mut [Record], out: &mut [u32]) -> Done {
     match whole_table(table) {
         Some(table) => up_packet::<LENT, BEGINNERS>(words, table, out),
@@ -580,6 +582,7 @@ pub fn mark_coarse(table: &mut [Record], group: u8, channel: u8, coarse: u8) -> 
 }
 
 /// Treats the packet at the start of the words, going down.
+#[inline(always)]
 pub fn down(words: &[u32], out: &mut [u32]) -> Done {
     down_packet(words, out)
 }
@@ -766,8 +769,8 @@ fn up_program_change(word: u32, record: &mut Record, out: &mut [u32]) -> Done {
 #[inline(always)]
 fn down_packet(words: &[u32], out: &mut [u32]) -> Done {
     match *words {
-        [word, ..] if word >> 28 == 2 => refused(WRONG_PROTOCOL, 1),
         [first, second, ..] if first >> 28 == 4 => down_voice(first, second, out),
+        [word, ..] if word >> 28 == 2 => refused(WRONG_PROTOCOL, 1),
         _ => other_type::<ANY_ROOM>(words, out),
     }
 }
@@ -777,32 +780,28 @@ fn midi_1_word(word: u32, status: u32, data_1: u32, data_2: u32) -> u32 {
     0x2000_0000 | word & 0x0F0F_0000 | status << 20 | data_1 << 8 | data_2
 }
 
+/// What is good and can be said in MIDI 1.0, and then what is not.
 #[inline(always)]
 fn down_voice(first: u32, second: u32, out: &mut [u32]) -> Done {
-    let status = first >> 20 & 15;
-    if status == 7 {
-        return refused(BAD_STATUS, 2);
-    }
-    if !data_in_range(first, second) {
-        return bad_data(&[first, second]);
-    }
-    let index = first >> 8 & 127;
+    let same = first & 0x0FFF_7F00 | 0x2000_0000;
     let (high_7, high_14) = (second >> 25, second >> 18);
-    match status {
-        0x2 if null(high_byte(first), low_byte(first)) => refused(NO_MIDI_1_FORM, 2),
-        0x2 => down_controller(first, high_14, [101, 100], out),
-        0x3 => down_controller(first, high_14, [99, 98], out),
-        0x8 | 0xA => send(2, [midi_1_word(first, status, index, high_7)], out),
-        0x9 => send(2, [midi_1_word(first, 0x9, index, high_7.max(1))], out),
-        0xB => down_control_change(first, index, high_7, out),
-        0xC => down_program_change(first, second, out),
+    match first >> 20 & 15 {
+        0x8 | 0xA if first & 0x8000 == 0 => send(2, [same | high_7], out),
+        0x9 if first & 0x8000 == 0 => send(2, [same | high_7.max(1)], out),
+        0xB if has_control_change(first) => send(2, [same | high_7], out),
+        0x2 if first & 0x8080 == 0 && !null(high_byte(first), low_byte(first)) => {
+            down_controller(first, high_14, [101, 100], out)
+        }
+        0x3 if first & 0x8080 == 0 => down_controller(first, high_14, [99, 98], out),
+        0xC if data_in_range(first, second) => down_program_change(first, second, out),
         0xD => send(2, [midi_1_word(first, 0xD, high_7, 0)], out),
-        0xE => send(
-            2,
-            [midi_1_word(first, 0xE, high_14 & 127, high_14 >> 7)],
-            out,
-        ),
-        _ => refused(NO_MIDI_1_FORM, 2),
+        0xE => {
+            let bend = midi_1_word(first, 0xE, high_14 & 127, high_14 >> 7);
+            send(2, [bend], out)
+        }
+        0x7 => refused(BAD_STATUS, 2),
+        _ if data_in_range(first, second) => refused(NO_MIDI_1_FORM, 2),
+        _ => bad_data(&[first, second]),
     }
 }
 
@@ -827,11 +826,9 @@ fn down_controller(first: u32, value: u32, address: [u32; 2], out: &mut [u32]) -
     send(2, words, out)
 }
 
-fn down_control_change(first: u32, index: u32, value: u32, out: &mut [u32]) -> Done {
-    match index {
-        0 | 6 | 32 | 38 | 96..=101 => refused(NO_MIDI_1_FORM, 2),
-        _ => send(2, [midi_1_word(first, 0xB, index, value)], out),
-    }
+/// Whether a controller is good and has no other meaning in MIDI 1.0 than its own.
+fn has_control_change(first: u32) -> bool {
+    !matches!(high_byte(first), 0 | 6 | 32 | 38 | 96..=101 | 128..)
 }
 
 fn down_program_change(first: u32, second: u32, out: &mut [u32]) -> Done {
