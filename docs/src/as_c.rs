@@ -4,7 +4,8 @@
 //! Every pointer here must be that of so many elements as the length behind it says, lent for the
 //! call and to nobody else.
 
-use crate::{Cable, Done, Identity, Imported, Keys, Maker, Record};
+use crate::collector::{self, Collected};
+use crate::{Cable, Chain, Done, Identity, Imported, Keys, Maker, Record};
 use std::slice::{from_raw_parts, from_raw_parts_mut};
 
 /// Calls that go up over a lent table.
@@ -227,4 +228,28 @@ pub unsafe extern "C" fn empty() -> Record {
 
 pub unsafe extern "C" fn cable_idle() -> Cable {
     crate::cable_idle()
+}
+
+/// Calls that collect whole messages.
+macro_rules! collecting {
+    ($($name:ident)*) => {$(
+        pub unsafe extern "C" fn $name(
+            chains: *mut Chain,
+            chains_len: usize,
+            buffer: *mut u8,
+            buffer_len: usize,
+            words: *const u32,
+            words_len: usize,
+        ) -> Collected {
+            let chains = from_raw_parts_mut(chains, chains_len);
+            let buffer = from_raw_parts_mut(buffer, buffer_len);
+            collector::$name(chains, buffer, from_raw_parts(words, words_len))
+        }
+    )*};
+}
+
+collecting! { collect run_collect }
+
+pub unsafe extern "C" fn chain_closed() -> Chain {
+    collector::CLOSED
 }

@@ -10,6 +10,7 @@
 //! in fifty has a flipped bit.
 
 use crate::packets::{packet, Dice};
+use crate::traffic::end_at;
 use reading::{size, COMPLETE, CONTINUE, END, START};
 
 /// The group of the cable.
@@ -83,20 +84,25 @@ pub fn bytes(length: usize) -> Vec<u8> {
     bytes
 }
 
+/// The form of a packet of a message, by its number and how many there are.
+pub fn form(number: usize, count: usize) -> u32 {
+    match (number, number + 1 == count) {
+        (0, true) => COMPLETE,
+        (0, false) => START,
+        (_, false) => CONTINUE,
+        (_, true) => END,
+    }
+}
+
 /// The packets of an exclusive: a complete one, or a start, full ones and an end.
-fn exclusive(dice: &mut Dice) -> Vec<[u32; 4]> {
+pub fn exclusive(dice: &mut Dice) -> Vec<[u32; 4]> {
     let length = dice.pick(&LENGTHS);
     let mut data = vec![];
     push_data(dice, length, &mut data);
     let count = length.div_ceil(6).max(1);
     let mut packets = vec![];
     for number in 0..count {
-        let form = match (number, number + 1 == count) {
-            (0, true) => COMPLETE,
-            (0, false) => START,
-            (_, false) => CONTINUE,
-            (_, true) => END,
-        };
+        let form = form(number, count);
         let held = &data[6 * number..length.min(6 * number + 6)];
         let mut payload = [0; 8];
         payload[2..2 + held.len()].copy_from_slice(held);
@@ -129,16 +135,5 @@ pub fn packets(length: usize) -> Vec<u32> {
             words.extend(&packet[..size(packet[0])]);
         }
     }
-    end_at(length, words)
-}
-
-/// So many words of these: those behind the last packet that ends by then are utility messages.
-fn end_at(length: usize, mut words: Vec<u32>) -> Vec<u32> {
-    let mut end = 0;
-    while end + size(words[end]) <= length {
-        end += size(words[end]);
-    }
-    words.truncate(end);
-    words.resize(length, 0);
-    words
+    end_at(length, words, 0)
 }

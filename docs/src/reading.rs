@@ -5,6 +5,7 @@
 pub mod as_c;
 mod cable;
 mod chains;
+pub mod collector;
 mod desk;
 mod hosts;
 mod identity;

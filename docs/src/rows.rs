@@ -2,7 +2,8 @@
 //! stands for all reports.
 
 use crate::sides::Side;
-use reading::{Cable, Done, Identity, Imported, Keys, Maker, Record};
+use reading::collector::Collected;
+use reading::{Cable, Chain, Done, Identity, Imported, Keys, Maker, Record};
 use std::time::Duration;
 
 /// What room holds that nothing was written to.
@@ -127,6 +128,23 @@ impl Report for Imported {
         let (read, written) = (self.read as u64, self.written as u64);
         let counts = u64::from(self.answer) ^ read << 16 ^ written << 40;
         counts.rotate_left(32) ^ self.after.number()
+    }
+}
+
+impl Report for Chain {
+    #[inline(always)]
+    fn number(&self) -> u64 {
+        self.length as u64 ^ u64::from(self.shared) << 20 ^ u64::from(self.packets) << 52
+    }
+}
+
+impl Report for Collected {
+    #[inline(always)]
+    fn number(&self) -> u64 {
+        let (read, chain) = (self.read as u64, self.chain as u64);
+        let (start, length) = (self.start as u64, self.length as u64);
+        let answer = u64::from(self.answer) ^ u64::from(self.place) << 5;
+        answer ^ read << 8 ^ chain << 28 ^ start << 34 ^ length << 50
     }
 }
 

@@ -2,32 +2,36 @@
 //! header through the same signatures. They are called through pointers of which the compiler knows
 //! nothing, so that neither side is compiled into what times it.
 
-use reading::{as_c, Cable, Done, Identity, Imported, Keys, Maker, Record};
+use reading::collector::Collected;
+use reading::{as_c, Cable, Chain, Done, Identity, Imported, Keys, Maker, Record};
 use std::hint::black_box;
 
 /// Makes the sides from a list of the header's signatures, each with the functions that have it: the
 /// reading's name, and the product's.
 macro_rules! sides {
-    ($($signature:ident $lent:tt -> $report:ty: $($name:ident $full_name:ident)*;)*) => {
-        $(pub type $signature = unsafe extern "C" fn $lent -> $report;)*
+    ($(
+        $signature:ident $lent:tt -> $report:ty: $($(#[$when:meta])? $name:ident $full_name:ident)*;
+    )*) => {
+        $(#[cfg_attr(not(collector), allow(dead_code))]
+        pub type $signature = unsafe extern "C" fn $lent -> $report;)*
 
         #[link(name = "quernbrae", kind = "static")]
         extern "C" {
-            $($(fn $full_name $lent -> $report;)*)*
+            $($($(#[$when])? fn $full_name $lent -> $report;)*)*
         }
 
         /// The functions of one side.
         #[derive(Clone, Copy)]
         pub struct Side {
-            $($(pub $name: $signature,)*)*
+            $($($(#[$when])? pub $name: $signature,)*)*
         }
 
         pub fn product() -> Side {
-            Side { $($($name: black_box($full_name as $signature),)*)* }
+            Side { $($($(#[$when])? $name: black_box($full_name as $signature),)*)* }
         }
 
         pub fn reading() -> Side {
-            Side { $($($name: black_box(as_c::$name as $signature),)*)* }
+            Side { $($($(#[$when])? $name: black_box(as_c::$name as $signature),)*)* }
         }
     };
 }
@@ -116,6 +120,15 @@ sides! {
         empty quernbrae_empty;
     CableIdle() -> Cable:
         cable_idle quernbrae_cable_idle;
+    Collect(
+        chains: *mut Chain, chains_len: usize,
+        buffer: *mut u8, buffer_len: usize,
+        words: *const u32, words_len: usize
+    ) -> Collected:
+        #[cfg(collector)] collect quernbrae_collect
+        #[cfg(collector)] run_collect quernbrae_run_collect;
+    ChainClosed() -> Chain:
+        #[cfg(collector)] chain_closed quernbrae_chain_closed;
 }
 
 /// The two lists of a host's calls: whose call it is, and who has which group.
@@ -207,4 +220,13 @@ pub fn come_in(call: ComeIn, cable: Cable, group: u8, bytes: &[u8], out: &mut [u
 pub fn go_out(call: GoOut, group: u8, words: &[u32], out: &mut [u8]) -> Done {
     let (out, out_len) = (out.as_mut_ptr(), out.len());
     unsafe { call(group, words.as_ptr(), words.len(), out, out_len) }
+}
+
+#[cfg(collector)]
+#[inline(always)]
+pub fn gather(call: Collect, chains: &mut [Chain], buffer: &mut [u8], words: &[u32]) -> Collected {
+    let (chains, chains_len) = (chains.as_mut_ptr(), chains.len());
+    let (buffer, buffer_len) = (buffer.as_mut_ptr(), buffer.len());
+    let (words, words_len) = (words.as_ptr(), words.len());
+    unsafe { call(chains, chains_len, buffer, buffer_len, words, words_len) }
 }

@@ -146,13 +146,17 @@ fn mix_down(length: usize) -> Vec<u32> {
 
 /// What is sent of the played music.
 fn music_down(length: usize) -> Vec<u32> {
-    let sent = sent_up(&played_music(length));
+    end_at(length, sent_up(&played_music(length)), 0x10F8_0000)
+}
+
+/// So many words of these, with packets of one word behind the last packet that ends by then.
+pub fn end_at(length: usize, mut words: Vec<u32>, filler: u32) -> Vec<u32> {
     let mut end = 0;
-    while end + size(sent[end]) <= length {
-        end += size(sent[end]);
+    while let Some(first) = words.get(end).filter(|first| end + size(**first) <= length) {
+        end += size(*first);
     }
-    let mut words = sent[..end].to_vec();
-    words.resize(length, 0x10F8_0000);
+    words.truncate(end);
+    words.resize(length, filler);
     words
 }
 
