@@ -22,14 +22,9 @@ pub fn run_import(cable: Cable, group: u8, bytes: &[u8], out: &mut [u32]) -> Imp
         out,
         written: 0,
     };
-    let mut answer = SENT;
-    while let (SENT, Some(byte)) = (answer, run.bytes.get(run.read)) {
-        if run.go_on(*byte).is_none() {
-            answer = OUTPUT_SHORT;
-        }
-    }
+    let end = run.go_to_the_end();
     Imported {
-        answer,
+        answer: end.map_or(OUTPUT_SHORT, |_| SENT),
         read: run.read,
         written: run.written,
         after: run.line.cable(),
@@ -139,6 +134,15 @@ impl Run<'_> {
         let place = self.out.get_mut(self.written..)?.get_mut(..COUNT)?;
         place.copy_from_slice(&words);
         self.written += COUNT;
+        Some(())
+    }
+
+    /// Takes all bytes, up to one whose packet has no room.
+    #[inline(always)]
+    fn go_to_the_end(&mut self) -> Option<()> {
+        while let Some(byte) = self.bytes.get(self.read) {
+            self.go_on(*byte)?;
+        }
         Some(())
     }
 

@@ -478,14 +478,27 @@ pub fn up(words: &[u32], table: &mut [Record], out: &mut [u32]) -> Done {
 
 /// Treats packet after packet, going up.
 pub fn run_up(words: &[u32], table: &mut [Record], out: &mut [u32]) -> Done {
+    run_up_unless::<ANY_ROOM>(words, table, out, |_| None)
+}
+
+/// Treats packet after packet, going up in a room, but for packets that are refused before all else.
+#[inline(always)]
+fn run_up_unless<const ROOM: bool>(
+    words: &[u32],
+    table: &mut [Record],
+    out: &mut [u32],
+    refusal: impl Fn(&[u32]) -> Option<Done>,
+) -> Done {
     match whole_table(table) {
         Some(table) if words.len() >= LONG_RUN && table.iter().all(Record::sound) => {
             run(words, out, |words, out| {
-                up_packet::<LENT_AND_SOUND, ANY_ROOM>(words, table, out)
+                let call = || up_packet::<LENT_AND_SOUND, ROOM>(words, table, out);
+                refusal(words).unwrap_or_else(call)
             })
         }
         Some(table) => run(words, out, |words, out| {
-            up_packet::<LENT, ANY_ROOM>(words, table, out)
+            let call = || up_packet::<LENT, ROOM>(words, table, out);
+            refusal(words).unwrap_or_else(call)
         }),
         None => stopped(NOT_256_RECORDS),
     }
@@ -502,12 +515,7 @@ pub fn beginners_up(words: &[u32], table: &mut [Record], out: &mut [u32]) -> Don
 
 /// Treats packet after packet, going up in the beginners' room.
 pub fn beginners_run_up(words: &[u32], table: &mut [Record], out: &mut [u32]) -> Done {
-    match whole_table(table) {
-        Some(table) => run(words, out, |words, out| {
-            up_packet::<LENT, BEGINNERS>(words, table, out)
-        }),
-        None => stopped(NOT_256_RECORDS),
-    }
+    run_up_unless::<BEGINNERS>(words, table, out, |_| None)
 }
 
 /// Whether the good packet that begins with this word may pass in the beginners' room: utility

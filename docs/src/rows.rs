@@ -174,17 +174,15 @@ impl Report for Record {
     #[inline(always)]
     fn number(&self) -> u64 {
         let [low, high] = self.kind.to_ne_bytes();
-        let rest = u64::from_ne_bytes([
-            low,
-            high,
-            self.bank_high,
-            self.bank_low,
+        let first = u32::from_ne_bytes([low, high, self.bank_high, self.bank_low]);
+        let last = [
             self.address_bank,
             self.address_index,
             self.data_high,
             self.coarse,
-        ]);
-        self.keys[0] ^ self.keys[1].rotate_left(32) ^ rest
+        ];
+        let keys = self.keys[0] ^ self.keys[1].rotate_left(32);
+        keys ^ u64::from(first) ^ u64::from(u32::from_ne_bytes(last)).rotate_left(29)
     }
 }
 
