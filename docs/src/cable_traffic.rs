@@ -11,7 +11,10 @@
 
 use crate::packets::{packet, Dice};
 use crate::traffic::end_at;
-use reading::{size, COMPLETE, CONTINUE, END, START};
+use reading::{
+    cable_idle, export, import, size, BAD_DATA, BAD_STATUS, COMPLETE, CONTINUE, CUT_OFF, DROPPED,
+    END, NOT_FOR_CABLE, RESERVED_TYPE, SENT, START, TAKEN_IN,
+};
 
 /// The group of the cable.
 pub const GROUP: u8 = 5;
@@ -136,4 +139,29 @@ pub fn packets(length: usize) -> Vec<u32> {
         }
     }
     end_at(length, words, 0)
+}
+
+/// Fails unless the bytes meet everything that a byte can do.
+pub fn check_bytes(bytes: &[u8]) {
+    let (mut cable, mut place, mut answers) = (cable_idle(), 0, [0; 13]);
+    while place < bytes.len() {
+        let one = import(cable, GROUP, &bytes[place..], &mut [0; 2]);
+        place += one.read;
+        cable = one.after;
+        answers[one.answer as usize] += 1;
+    }
+    let all = [SENT, TAKEN_IN, DROPPED, CUT_OFF];
+    assert!(all.iter().all(|answer| answers[*answer as usize] > 0));
+}
+
+/// Fails unless the words meet everything that a packet can do, but for one without bytes.
+pub fn check_packets(words: &[u32]) {
+    let (mut place, mut answers) = (0, [0; 26]);
+    while place < words.len() {
+        let done = export(GROUP, &words[place..], &mut [0; 8]);
+        place += done.read;
+        answers[done.answer as usize] += 1;
+    }
+    let all = [SENT, RESERVED_TYPE, BAD_STATUS, BAD_DATA, NOT_FOR_CABLE];
+    assert!(all.iter().all(|answer| answers[*answer as usize] > 0));
 }

@@ -8,7 +8,8 @@
 use crate::cable_traffic::{exclusive, form};
 use crate::packets::{packet, Dice};
 use crate::traffic::end_at;
-use reading::size;
+use reading::collector::{collect, CLOSED};
+use reading::{size, BAD_DATA, BAD_STATUS, NO_CHAIN, OUT_OF_TURN, SENT, TAKEN_IN};
 
 const GROUPS: [u32; 6] = [0, 1, 4, 7, 10, 15];
 
@@ -56,4 +57,21 @@ pub fn librarian(length: usize) -> Vec<u32> {
         }
     }
     end_at(length, words, 0)
+}
+
+/// Fails unless messages of both sorts are whole, chains are dropped, and packets refused.
+pub fn check_librarian(words: &[u32]) {
+    let (mut chains, mut buffer) = ([CLOSED; NO_CHAIN], [0; 1 << 16]);
+    let (mut place, mut answers, mut whole) = (0, [0; 19], [0; 2]);
+    while place < words.len() {
+        let one = collect(&mut chains, &mut buffer, &words[place..]);
+        place += one.read;
+        answers[one.answer as usize] += 1;
+        if one.answer == SENT {
+            whole[one.chain / 16] += 1;
+        }
+    }
+    let all = [SENT, TAKEN_IN, BAD_STATUS, BAD_DATA, OUT_OF_TURN];
+    assert!(all.iter().all(|answer| answers[*answer as usize] > 0));
+    assert!(whole[0] > 0 && whole[1] > 0);
 }

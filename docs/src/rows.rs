@@ -21,10 +21,11 @@ pub struct Row<'a> {
 }
 
 impl<'a> Row<'a> {
-    /// A row of so many words, bytes or calls. What a side does gives back the time that it took and
-    /// what is left: all that it wrote, its reports, and the state at the end.
+    /// A row of what is done to the input of a recipe, if there is one, with so many words, bytes or
+    /// calls. What a side does gives back the time that it took and what is left: all that it wrote,
+    /// its reports, and the state at the end.
     pub fn new<Left: PartialEq>(
-        name: String,
+        [what, recipe, unit]: [&str; 3],
         units: usize,
         go: impl Fn(Side) -> (Duration, Left) + 'a,
     ) -> Row<'a> {
@@ -37,7 +38,7 @@ impl<'a> Row<'a> {
             times
         };
         Row {
-            name,
+            name: format!("{what:<35}{recipe:<13}a {unit}"),
             units,
             turn: Box::new(turn),
             best: [Duration::MAX; 2],

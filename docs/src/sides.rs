@@ -222,6 +222,70 @@ pub fn go_out(call: GoOut, group: u8, words: &[u32], out: &mut [u8]) -> Done {
     unsafe { call(group, words.as_ptr(), words.len(), out, out_len) }
 }
 
+#[inline(always)]
+pub fn ask_keys(call: AskKeys, table: &[Record], group: u8, channel: u8) -> Keys {
+    unsafe { call(table.as_ptr(), table.len(), group, channel) }
+}
+
+#[inline(always)]
+pub fn mark(call: Mark, table: &mut [Record], group: u8, channel: u8, coarse: u8) -> u32 {
+    unsafe { call(table.as_mut_ptr(), table.len(), group, channel, coarse) }
+}
+
+#[inline(always)]
+pub fn host_ask_keys(
+    call: HostAskKeys,
+    guest: Guest,
+    table: &[Record],
+    group: u8,
+    channel: u8,
+) -> Keys {
+    let (host, owners, owners_len) = (guest.host, guest.owners.as_ptr(), guest.owners.len());
+    let (table, table_len) = (table.as_ptr(), table.len());
+    unsafe { call(host, owners, owners_len, table, table_len, group, channel) }
+}
+
+#[inline(always)]
+pub fn host_mark(
+    call: HostMark,
+    guest: Guest,
+    table: &mut [Record],
+    group: u8,
+    channel: u8,
+    coarse: u8,
+) -> u32 {
+    let (host, owners, owners_len) = (guest.host, guest.owners.as_ptr(), guest.owners.len());
+    let (table, table_len) = (table.as_mut_ptr(), table.len());
+    unsafe {
+        call(
+            host, owners, owners_len, table, table_len, group, channel, coarse,
+        )
+    }
+}
+
+#[inline(always)]
+pub fn give(call: Give, owners: &mut [u8], table: &mut [Record], group: u8, host: u8) -> u32 {
+    let (owners, owners_len) = (owners.as_mut_ptr(), owners.len());
+    let (table, table_len) = (table.as_mut_ptr(), table.len());
+    unsafe { call(owners, owners_len, table, table_len, group, host) }
+}
+
+#[inline(always)]
+pub fn identity_new(call: IdentityNew, old: &[u8]) -> Identity {
+    unsafe { call(old.as_ptr(), old.len()) }
+}
+
+#[inline(always)]
+pub fn identity_old(call: IdentityOld, number: u16) -> Maker {
+    unsafe { call(number) }
+}
+
+/// What a call gives that is lent nothing.
+#[inline(always)]
+pub fn begin<T>(call: unsafe extern "C" fn() -> T) -> T {
+    black_box(unsafe { call() })
+}
+
 #[cfg(collector)]
 #[inline(always)]
 pub fn gather(call: Collect, chains: &mut [Chain], buffer: &mut [u8], words: &[u32]) -> Collected {

@@ -1,6 +1,6 @@
 //! The rows of the five-pin sockets: bytes that come in, and packets that go out.
 
-use crate::cable_traffic::{bytes, packets, GROUP};
+use crate::cable_traffic::{bytes, check_bytes, check_packets, packets, GROUP};
 use crate::rows::{room, room_of_bytes, timed, Reports, Row};
 use crate::sides::{come_in, go_out, ComeIn, GoOut};
 use reading::{cable_idle, Cable};
@@ -16,10 +16,10 @@ pub struct Cables {
 
 impl Cables {
     pub fn new() -> Cables {
-        Cables {
-            bytes: bytes(LENGTH),
-            words: packets(LENGTH),
-        }
+        let (bytes, words) = (bytes(LENGTH), packets(LENGTH));
+        check_bytes(&bytes);
+        check_packets(&words);
+        Cables { bytes, words }
     }
 }
 
@@ -60,18 +60,17 @@ fn send_out(call: GoOut, words: &[u32]) -> (Duration, (Vec<u8>, Reports)) {
 
 pub fn rows(cables: &Cables) -> Vec<Row<'_>> {
     let Cables { bytes, words } = cables;
-    let name = |what: &str, unit: &str| format!("{what:<35}{:<13}a {unit}", "cable");
     vec![
-        Row::new(name("run in", "byte"), LENGTH, |side| {
+        Row::new(["run in", "cable", "byte"], LENGTH, |side| {
             take_in(side.run_import, bytes)
         }),
-        Row::new(name("in, a call a byte", "byte"), LENGTH, |side| {
+        Row::new(["in, a call a byte", "cable", "byte"], LENGTH, |side| {
             take_in(side.import, bytes)
         }),
-        Row::new(name("run out", "word"), LENGTH, |side| {
+        Row::new(["run out", "cable", "word"], LENGTH, |side| {
             send_out(side.run_export, words)
         }),
-        Row::new(name("out, a call a packet", "word"), LENGTH, |side| {
+        Row::new(["out, a call a packet", "cable", "word"], LENGTH, |side| {
             send_out(side.export, words)
         }),
     ]

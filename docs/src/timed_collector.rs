@@ -1,11 +1,10 @@
 //! The rows of the collector, by calls and by its run.
 
-use crate::chain_traffic::librarian;
+use crate::chain_traffic::{check_librarian, librarian};
 use crate::rows::{room_of_bytes, timed, Reports, Row};
-use crate::sides::{gather, Collect};
+use crate::sides::{begin, gather, ChainClosed, Collect};
 use reading::collector::CLOSED;
 use reading::{Chain, NO_CHAIN};
-use std::hint::black_box;
 use std::time::Duration;
 
 /// So many words go into the chains.
@@ -21,7 +20,9 @@ pub struct Messages(Vec<u32>);
 
 impl Messages {
     pub fn new() -> Messages {
-        Messages(librarian(LENGTH))
+        let words = librarian(LENGTH);
+        check_librarian(&words);
+        Messages(words)
     }
 }
 
@@ -44,24 +45,30 @@ fn take_all(call: Collect, words: &[u32]) -> (Duration, Left) {
     (time, (buffer, reports, chains))
 }
 
+/// Closes chains, and gives back all of them as reports.
+fn close(call: ChainClosed) -> (Duration, Reports) {
+    timed(|| {
+        let mut reports = Reports::default();
+        (0..CLOSINGS).for_each(|_| reports.note(begin(call)));
+        reports
+    })
+}
+
 pub fn rows(messages: &Messages) -> Vec<Row<'_>> {
-    let name = |what: &str| format!("{what:<35}{:<13}a word", "librarian");
     let Messages(words) = messages;
     vec![
-        Row::new(name("collecting, by runs"), LENGTH, |side| {
-            take_all(side.run_collect, words)
-        }),
-        Row::new(name("collecting, a call a packet"), LENGTH, |side| {
-            take_all(side.collect, words)
-        }),
-        Row::new(format!("{:<48}a call", "closed chain"), CLOSINGS, |side| {
-            timed(|| {
-                let mut reports = Reports::default();
-                for _ in 0..CLOSINGS {
-                    reports.note(black_box(unsafe { (side.chain_closed)() }));
-                }
-                reports
-            })
+        Row::new(
+            ["collecting, by runs", "librarian", "word"],
+            LENGTH,
+            |side| take_all(side.run_collect, words),
+        ),
+        Row::new(
+            ["collecting, a call a packet", "librarian", "word"],
+            LENGTH,
+            |side| take_all(side.collect, words),
+        ),
+        Row::new(["closed chain", "", "call"], CLOSINGS, |side| {
+            close(side.chain_closed)
         }),
     ]
 }

@@ -3,10 +3,11 @@
 
 use crate::packets::Dice;
 use crate::rows::{timed, Report, Reports, Row};
-use crate::sides::Side;
+use crate::sides::{
+    ask_keys, begin, give, host_ask_keys, host_mark, identity_new, identity_old, mark, Guest, Side,
+};
 use crate::traffic::RECIPES;
-use reading::{empty, identity_new, run_up, Record, SENT};
-use std::hint::black_box;
+use reading::{empty, run_up, Record, SENT};
 use std::time::Duration;
 
 /// So many calls of each sort.
@@ -79,7 +80,7 @@ fn throw_old(dice: &mut Dice) -> Old {
 
 /// The number of an identity, or any where it has none.
 fn throw_new(dice: &mut Dice, old: Old) -> u16 {
-    let identity = identity_new(&old.bytes[..old.count]);
+    let identity = reading::identity_new(&old.bytes[..old.count]);
     match identity.answer {
         SENT => identity.number as u16,
         _ => dice.word() as u16,
@@ -108,49 +109,49 @@ fn change<R: Report>(
 }
 
 fn row<'a, Left: PartialEq>(what: &str, go: impl Fn(Side) -> (Duration, Left) + 'a) -> Row<'a> {
-    Row::new(format!("{what:<48}a call"), CALLS, go)
+    Row::new([what, "", "call"], CALLS, go)
 }
-
-// Pointers and lengths come from arrays.
 
 fn questions_and_marks(all: &Questions) -> Vec<Row<'_>> {
     vec![
         row("keys down", |side| {
-            change(all, |table, _, place| unsafe {
-                (side.keys_down)(table.as_ptr(), 256, place.group, place.channel)
+            change(all, |table, _, place| {
+                ask_keys(side.keys_down, table, place.group, place.channel)
             })
         }),
         row("mark coarse", |side| {
-            change(all, |table, _, place| unsafe {
-                let Place {
-                    group,
-                    channel,
-                    number,
-                } = place;
-                (side.mark_coarse)(table.as_mut_ptr(), 256, group, channel, number)
+            change(all, |table, _, place| {
+                let coarse = place.number;
+                mark(side.mark_coarse, table, place.group, place.channel, coarse)
             })
         }),
+    ]
+}
+
+fn of_hosts(all: &Questions) -> Vec<Row<'_>> {
+    vec![
         row("host's keys down", |side| {
-            change(all, |table, owners, place| unsafe {
-                let (owners, table) = (owners.as_ptr(), table.as_ptr());
-                (side.host_keys_down)(1, owners, 16, table, 256, place.group, place.channel)
+            change(all, |table, owners, place| {
+                let guest = Guest { host: 1, owners };
+                host_ask_keys(
+                    side.host_keys_down,
+                    guest,
+                    table,
+                    place.group,
+                    place.channel,
+                )
             })
         }),
         row("host's mark coarse", |side| {
-            change(all, |table, owners, place| unsafe {
-                let Place {
-                    group,
-                    channel,
-                    number,
-                } = place;
-                let (owners, table) = (owners.as_ptr(), table.as_mut_ptr());
-                (side.host_mark_coarse)(1, owners, 16, table, 256, group, channel, number)
+            change(all, |table, owners, place| {
+                let (guest, coarse) = (Guest { host: 1, owners }, place.number);
+                let (group, channel) = (place.group, place.channel);
+                host_mark(side.host_mark_coarse, guest, table, group, channel, coarse)
             })
         }),
         row("give group", |side| {
-            change(all, |table, owners, place| unsafe {
-                let (owners, table) = (owners.as_mut_ptr(), table.as_mut_ptr());
-                (side.give_group)(owners, 16, table, 256, place.group, place.number)
+            change(all, |table, owners, place| {
+                give(side.give_group, owners, table, place.group, place.number)
             })
         }),
     ]
@@ -159,24 +160,23 @@ fn questions_and_marks(all: &Questions) -> Vec<Row<'_>> {
 fn identities_and_beginnings(all: &Questions) -> Vec<Row<'_>> {
     vec![
         row("maker identity, to a number", |side| {
-            ask(&all.old, |old| unsafe {
-                (side.identity_new)(old.bytes.as_ptr(), old.count)
+            ask(&all.old, |old| {
+                identity_new(side.identity_new, &old.bytes[..old.count])
             })
         }),
         row("maker identity, to bytes", |side| {
-            ask(&all.new, |number| unsafe { (side.identity_old)(number) })
+            ask(&all.new, |number| identity_old(side.identity_old, number))
         }),
-        row("empty record", |side| {
-            ask(&all.new, |_| black_box(unsafe { (side.empty)() }))
-        }),
+        row("empty record", |side| ask(&all.new, |_| begin(side.empty))),
         row("idle cable", |side| {
-            ask(&all.new, |_| black_box(unsafe { (side.cable_idle)() }))
+            ask(&all.new, |_| begin(side.cable_idle))
         }),
     ]
 }
 
 pub fn rows(questions: &Questions) -> Vec<Row<'_>> {
     let mut rows = questions_and_marks(questions);
+    rows.extend(of_hosts(questions));
     rows.extend(identities_and_beginnings(questions));
     rows
 }

@@ -6,7 +6,7 @@ use crate::sides::{
     go_down, go_up, host_go_down, host_go_up, lesson, only, GoDown, GoUp, Guest, HostGoDown,
     HostGoUp, Side,
 };
-use crate::traffic::{check_mix, RECIPES, RECIPES_DOWN};
+use crate::traffic::{check_mix, check_mix_down, Recipe, RECIPES, RECIPES_DOWN};
 use reading::{empty, Done, Record};
 use std::time::Duration;
 
@@ -42,18 +42,19 @@ pub struct Streams {
 impl Streams {
     pub fn new() -> Streams {
         let [.., longest] = LENGTHS;
-        let streams = |recipes: [crate::traffic::Recipe; 2], length| {
+        let streams = |recipes: [Recipe; 2], length| {
             recipes.map(|(recipe, make)| Stream {
                 recipe,
                 words: make(length),
             })
         };
-        let up = streams(RECIPES, ASKED);
+        let (up, down) = (streams(RECIPES, ASKED), streams(RECIPES_DOWN, ASKED));
         check_mix(&up[0].words);
+        check_mix_down(&down[0].words);
         Streams {
             up,
             longest: streams(RECIPES, longest),
-            down: streams(RECIPES_DOWN, ASKED),
+            down,
         }
     }
 }
@@ -84,11 +85,6 @@ fn walk(
     (time, (out, reports, table))
 }
 
-/// The name of a row: what is done to the words of a recipe.
-fn name(what: &str, recipe: &str) -> String {
-    format!("{what:<35}{recipe:<13}a word")
-}
-
 /// A row over the words of a recipe.
 fn row<'a>(
     what: &str,
@@ -96,7 +92,7 @@ fn row<'a>(
     go: impl Fn(Side, &[u32]) -> (Duration, Left) + 'a,
 ) -> Row<'a> {
     let units = stream.words.len();
-    Row::new(name(what, stream.recipe), units, move |side| {
+    Row::new([what, stream.recipe, "word"], units, move |side| {
         go(side, &stream.words)
     })
 }

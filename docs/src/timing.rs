@@ -52,8 +52,9 @@ fn main() {
     rows.extend(timed_questions::rows(&questions));
     rows.retain(|row| row.name().contains(&part));
     for turn in 0..TURNS {
-        rows.iter_mut()
-            .for_each(|row| row.take_a_turn(sides, turn % 2));
+        for row in &mut rows {
+            row.take_a_turn(sides, turn % 2);
+        }
     }
     print(&rows);
 }

@@ -19,7 +19,7 @@
 //! a flipped bit.
 
 use crate::packets::{packet, Dice};
-use reading::{empty, run_up, size, SENT, TAKEN_IN};
+use reading::{down, empty, run_up, size, NO_MIDI_1_FORM, SENT, TAKEN_IN};
 
 /// A recipe: its name, and what makes so many words by it.
 pub type Recipe = (&'static str, fn(usize) -> Vec<u32>);
@@ -194,4 +194,23 @@ pub fn check_mix(words: &[u32]) {
         .all(|count| *count > 0));
     assert!([0, 1, 4, 5, 6, 7].iter().all(|answer| answers[*answer] > 0));
     assert!(banks > 0);
+}
+
+/// Fails unless the words have packets of every type, good MIDI 2.0 voices of every status that there
+/// is, and every refusal that does not stop a run.
+pub fn check_mix_down(words: &[u32]) {
+    let (mut types, mut statuses, mut answers) = ([0; 16], [0; 16], [0; 10]);
+    let mut place = 0;
+    while place < words.len() {
+        let (word, done) = (words[place], down(&words[place..], &mut [0; 4]));
+        place += done.read;
+        types[(word >> 28) as usize] += 1;
+        answers[done.answer as usize] += 1;
+        if let (4, SENT | NO_MIDI_1_FORM) = (word >> 28, done.answer) {
+            statuses[(word >> 20 & 15) as usize] += 1;
+        }
+    }
+    assert!(types.iter().all(|count| *count > 0));
+    assert!((0..16).all(|status| (statuses[status] > 0) == (status != 7)));
+    assert!([0, 2, 4, 5, 6, 7].iter().all(|answer| answers[*answer] > 0));
 }
