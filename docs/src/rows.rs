@@ -29,16 +29,18 @@ impl<'a> Row<'a> {
         units: usize,
         go: impl Fn(Side) -> (Duration, Left) + 'a,
     ) -> Row<'a> {
+        let name = format!("{what:<35}{recipe:<13}a {unit}");
+        let told = name.clone();
         let turn = move |sides: [Side; 2], first: usize| {
             let (first_time, first_left) = go(sides[first]);
             let (second_time, second_left) = go(sides[1 - first]);
-            assert!(first_left == second_left, "the sides differ");
+            assert!(first_left == second_left, "the sides differ: {told}");
             let mut times = [first_time, second_time];
             times.rotate_left(first);
             times
         };
         Row {
-            name: format!("{what:<35}{recipe:<13}a {unit}"),
+            name,
             units,
             turn: Box::new(turn),
             best: [Duration::MAX; 2],
@@ -101,7 +103,8 @@ impl Report for Done {
     #[inline(always)]
     fn number(&self) -> u64 {
         let (read, written) = (self.read as u64, self.written as u64);
-        u64::from(self.answer) ^ u64::from(self.place) << 8 ^ read << 16 ^ written << 40
+        let answer = u64::from(self.answer) ^ u64::from(self.place) << 8;
+        answer ^ read << 16 ^ written.rotate_left(40)
     }
 }
 
@@ -127,7 +130,7 @@ impl Report for Imported {
     #[inline(always)]
     fn number(&self) -> u64 {
         let (read, written) = (self.read as u64, self.written as u64);
-        let counts = u64::from(self.answer) ^ read << 16 ^ written << 40;
+        let counts = u64::from(self.answer) ^ read << 16 ^ written.rotate_left(40);
         counts.rotate_left(32) ^ self.after.number()
     }
 }
