@@ -1,2 +1,5 @@
-pub mod ByteLaws
 pub mod CallLaws
+pub mod RowLaws
+pub mod MessageLaws
+pub mod ExclusiveLaws
+pub mod StepLaws
