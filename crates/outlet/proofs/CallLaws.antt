@@ -1,6 +1,6 @@
 -- A packet on its way out: the screening by type and group and then by the check; what a packet of the cable sends, and
 -- one that is not for it; and that a step looks at its own packet alone. Assumes nothing.
-use Prim.Native.Nat.{ℕ, _≤_}
+use Prim.Native.Nat.{ℕ}
 use mathlib.Core.Path.{_≡_, refl, sym, ap, _∙_}
 use mathlib.Core.Bool.{Bool, true, false, cond, not, _&&_}
 use mathlib.Core.List.{List, [], _∷_}
@@ -46,8 +46,8 @@ verdict w v = checked w v (cond (eqb (length (bytesOf w v)) 0) takenIn sent) .an
 not-reserved : (g w : ℕ) → ours g w ≡ true → reserved (messageType w) ≡ false
 not-reserved g w o =
     let t = and-left (leb 1 (messageType w) && leb (messageType w) 3) (eqb (groupOf w .0) g) o in
-    let most : messageType w ≤ 3 = leb-true (messageType w) 3 (and-right (leb 1 (messageType w)) (leb (messageType w) 3) t) in
-    rw (lt-leb 6 (messageType w) (omega arith), ne-eqb (messageType w) 14 (λ e. omega (arith, e, most)))
+    let most = leb-true (messageType w) 3 (and-right (leb 1 (messageType w)) (leb (messageType w) 3) t) in
+    rw (lt-leb 6 (messageType w) (omega (arith, most)), ne-eqb (messageType w) 14 (λ e. omega (arith, e, most)))
 
 module _ (g : ℕ) (p : List ℕ) where
   pub screened-none : length p ≡ 0 → screenOut g p ≡ answering cutPacket
@@ -61,7 +61,8 @@ module _ (g : ℕ) (p : List ℕ) where
   pub screened-other : (length p ≡ 0 → ⊥) → ours g (first p) ≡ false → screenOut g p ≡ answering (otherAnswer (first p))
   unfolding screenOut
   screened-other n o =
-      by-bool (reserved (messageType (first p))) (λ r. rw (ne-eqb (length p) 0 n, r)) (λ r. rw (ne-eqb (length p) 0 n, r, o))
+      by-bool (reserved (messageType (first p))) (λ r. rw (ne-eqb (length p) 0 n, r))
+      (λ r. rw (ne-eqb (length p) 0 n, r, o))
 
   -- a packet that passes
   pub goes-out : screenOut g p .answer ≡ goesOn → packetOut g p ≡ giving (bytesOf (first p) (second p))

@@ -33,6 +33,11 @@ pub inside : {bs out after : List ℕ} {to : ℕ} {s : Sent} → Sends bs to out
 inside {bs} {out} {after} {to} {s} q h t =
     omega (arith, q .counts, leb-true (length bs) (length out - to) (sym (q .puts .answer) ∙ t))
 
+-- six bytes are left of six at most where no fewer are
+pub all-six : (n : ℕ) → n ≤ 6 → (n ≡ 0 → ⊥) → (n ≡ 1 → ⊥) → (n ≡ 2 → ⊥) → (n ≡ 3 → ⊥) → (n ≡ 4 → ⊥) → (n ≡ 5 → ⊥)
+    → n ≡ 6
+all-six n h a b c d e f = omega arith
+
 -- a byte that stands where a test holds takes one place or none
 pub mark-length : (t : Bool) (x : ℕ) → length (marked t x) ≡ pick t 1 0
 unfolding pick
@@ -55,7 +60,8 @@ module _ (opens closes : Bool) (n w v : ℕ) (six-most : n ≤ 6) where
 
   -- the three parts one after another
   pub framed-sets : (to : ℕ) (out : List ℕ)
-      → sets (sets (sets out to (marked opens 0xF0)) (to + head) (take n (six w v))) (to + head + n) (marked closes 0xF7)
+      → sets (sets (sets out to (marked opens 0xF0)) (to + head) (take n (six w v))) (to + head + n)
+      (marked closes 0xF7)
       ≡ sets out to (framed opens closes n w v)
   framed-sets to out =
       let e : to + length (marked opens 0xF0 ++ take n (six w v)) ≡ to + head + n = omega (arith, front) in

@@ -1,5 +1,5 @@
--- One packet of a run, and one call: what they tell of a packet's bytes is what its call reports, with room and without.
--- Assumes nothing.
+-- One packet of a run, and one call: what they tell of a packet's bytes is what its call reports, with room and
+-- without. Assumes nothing.
 use Prim.Native.Nat.{ℕ, zero, suc, _+_, _-_, _≤_, _<_}
 use mathlib.Core.Path.{_≡_, refl, sym, ap, _∙_}
 use mathlib.Core.Bool.{Bool, true, false, cond, _&&_}
@@ -70,22 +70,25 @@ module _ (ws : List ℕ) (at : ℕ) (here : at < length ws) where
       go zero e r = absurd (omega (arith, e, r .0))
       go (suc n) e r = (
         rw (packet-whole-at ws at here h, e, drop-cons ws at 0 here),
-        rw (packet-whole-at ws at here h) (length-take-le (size word) (drop at ws) (omega (arith, length-drop at ws, h))),
+        rw (packet-whole-at ws at here h)
+            (length-take-le (size word) (drop at ws) (omega (arith, length-drop at ws, h))),
       )
 
 -- what became of a packet that goes, in a run
-module _ (read to n a : ℕ) (p bs out after : List ℕ) (s : Sent) (many : length p ≡ n) (q : Sends bs to out s after) where
-  abbrev c : Call (ℕ × Unit {0})
-  c = fit (length out - to) (went a bs tt)
+module _
+    (read to n a : ℕ) (p bs out after : List ℕ) (s : Sent) (many : length p ≡ n) (q : Sends bs to out s after)
+  where
+    abbrev c : Call (ℕ × Unit {0})
+    c = fit (length out - to) (went a bs tt)
 
-  pub passes : (toldRun s n read to ≡ onward read to p c) × (after ≡ written to (sentOf c) out)
-  passes =
-      by-bool (leb (length bs) (length out - to))
-      (λ t. (rw (q .puts .answer, t, q .counts, many), rw t (rw t at (q .puts .holds))))
-      (λ t. (
-        rw (q .puts .answer, t, add-zero read, add-zero to),
-        rw t (rw t at (q .puts .holds) ∙ sym (written-none to out)),
-      ))
+    pub passes : (toldRun s n read to ≡ onward read to p c) × (after ≡ written to (sentOf c) out)
+    passes =
+        by-bool (leb (length bs) (length out - to))
+        (λ t. (rw (q .puts .answer, t, q .counts, many), rw t (rw t at (q .puts .holds))))
+        (λ t. (
+          rw (q .puts .answer, t, add-zero read, add-zero to),
+          rw t (rw t at (q .puts .holds) ∙ sym (written-none to out)),
+        ))
 
 -- a packet of ours, one that is not, and none
 module _ (g read to : ℕ) (p out : List ℕ) where

@@ -1,5 +1,5 @@
 -- What a packet for the cable sends, by its first two words, and what became of it.
-use Prim.Native.Nat.{ℕ, _+_, _-_}
+use Prim.Native.Nat.{ℕ, _+_, _-_, _*_, _%_, _^_}
 use mathlib.Core.Bool.{Bool, true, false, cond, _&&_, _||_}
 use mathlib.Core.Path.{_≡_}
 use mathlib.Core.List.{List, [], _∷_, _++_}
@@ -45,6 +45,10 @@ marked test byte = pick test (byte ∷ []) []
 abbrev pub framed : Bool → Bool → ℕ → ℕ → ℕ → List ℕ
 framed opens closes n w v = marked opens 0xF0 ++ take n (six w v) ++ marked closes 0xF7
 
+-- the six bytes of a payload as one number, the first the highest
+abbrev pub payloadNumber : ℕ → ℕ → ℕ
+payloadNumber w v = w % 2 ^ 16 * 2 ^ 32 + v
+
 -- what is told of a row of bytes that goes to a place of the output: how many they are, and whether they are there
 pub record Sends (bs : List ℕ) (to : ℕ) (out : List ℕ) (s : Sent) (after : List ℕ) : Type 0 where
   pub counts : s .count ≡ length bs
@@ -70,7 +74,8 @@ unsent found n = placing (found .answer) (found .place) n 0
 unfoldable pub toldOne : ℕ → ℕ → Sent → ℕ → Done
 toldOne w v s n =
     cond (s .fits)
-    (cond (eqb (s .count) 0) (unsent (checking (goodStatus w) (checkedFields w v) takenIn) n) (counting sent n (s .count)))
+    (cond (eqb (s .count) 0) (unsent (checking (goodStatus w) (checkedFields w v) takenIn) n)
+    (counting sent n (s .count)))
     (counting noRoom 0 0)
 
 -- the call at a place of the words, with the output from a place on; and at the start of both

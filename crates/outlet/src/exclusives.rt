@@ -10,13 +10,18 @@ use ump::byte4;
 use ump::count;
 use ump::status;
 ghost use mathlib.Core.Path.{_≡_};
+ghost use mathlib.Core.List.{map};
 ghost use Prim.Native.Nat.{_+_, _≤_};
 ghost use lib.ListN.{length, take};
 ghost use lib.Seq.{sets};
 ghost use Rattle.ump.specs.Word.{messageType};
+ghost use Rattle.fields.specs.Check.{goodFields, seven};
 ghost use Rattle.cable.specs.State.{pick};
 ghost use Rattle.outlet.specs.Outlet.{six};
-ghost use Rattle.outlet.specs.Sending.{Sends, framed, marked, sends};
+ghost use Rattle.outlet.specs.Sending.{Sends, clean, framed, marked, payloadNumber, sends};
+
+// The highest bit of each of six bytes.
+const HIGH_BITS: u64 = 0x808080808080;
 
 // Stores a byte at a place where a test holds.
 fn put_marked(test: bool, byte: u8, out: &mut [u8], at: usize)
@@ -91,13 +96,43 @@ fn send_framed(
     told(true, all)
 }
 
+// The six bytes of a payload as one number.
+fn payload_number(w: u32, v: u32) -> u64
+    ensures { λ r. ⌜ r ≡ payloadNumber w v ⌝ }
+{
+    (w % 0x10000) as u64 * 0x100000000 + v as u64
+}
+
+// Whether the first n bytes of a payload are data bytes, asked of all at once.
+fn is_data(n: u32, w: u32, v: u32) -> bool
+    requires { ⌜ n ≤ 6 ⌝ }
+    ensures { λ r. ⌜ r ≡ goodFields (map seven (take n (six w v))) ⌝ }
+{
+    let p = payload_number(w, v);
+    let shift = 8 * (6 - n);
+    (p >> shift) & HIGH_BITS == 0
+}
+
+// Whether nothing of a packet is bad. Bytes behind the count are not asked.
+fn is_clean(w: u32, v: u32) -> bool
+    requires { ⌜ messageType w ≡ 3 ⌝ }
+    ensures { λ r. ⌜ r ≡ clean w v ⌝ }
+{
+    let n = count(w);
+    if n <= 6 {
+        (status(w) <= 3) & is_data(n, w, v)
+    } else {
+        false
+    }
+}
+
 // A packet of an exclusive: F0 stands before the complete and the start packet, F7 behind the complete and the end
 // packet.
 pub(crate) fn send_exclusive(w: u32, v: u32, out: &mut [u8], to: usize) -> Sent
     requires { ⌜ (messageType w ≡ 3) × (to ≤ length (now out)) ⌝ }
     ensures { λ r. ⌜ Sends (sends w v) to (now (out .entry)) r (now (out .exit)) ⌝ }
 {
-    if fields::is_good_unchanged(w, v) {
+    if is_clean(w, v) {
         let form = status(w);
         send_framed(
             form <= 1,

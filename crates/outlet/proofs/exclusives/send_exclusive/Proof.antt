@@ -10,7 +10,7 @@ use Rattle.outlet.proofs.exclusives.send_exclusive.Tie as tie
 send-framed-requires : tie.Need-send-framed-requires
 send-framed-requires c κs =
     let s = c .before .before .before .before .before .before in
-    let good = sym (c .before .before .before .before .is-good-unchanged .ensures) ∙ c .before .before .before .if1 .taken in
+    let good = sym (c .before .before .before .before .is-clean .ensures) ∙ c .before .before .before .if1 .taken in
     let few = exclusive-few (s .args .w) (s .args .v) (s .pre .0) good in
     (rw (c .before .count .ensures) few, s .pre .1)
 
@@ -18,14 +18,14 @@ returns : tie.Need-returns
 returns c =
     let d = c .before .before .before .before in
     let s = d .before .before .before .before .before in
-    let good = sym (d .before .before .before .is-good-unchanged .ensures) ∙ d .before .before .if1 .taken in
+    let good = sym (d .before .before .before .is-clean .ensures) ∙ d .before .before .if1 .taken in
     rw (exclusive-some (s .args .w) (s .args .v) (s .pre .0) good)
     (rw (d .count .ensures, d .before .status .ensures) at (c .before .before .send-framed .ensures))
 
 returns-2 : tie.Need-returns-2
 returns-2 c =
     let s = c .before .before .before .before in
-    let bad = sym (c .before .before .is-good-unchanged .ensures) ∙ c .before .if1 .left in
+    let bad = sym (c .before .before .is-clean .ensures) ∙ c .before .if1 .left in
     nothing _ _ _ _ (c .told .ensures) (exclusive-none (s .args .w) (s .args .v) (s .pre .0) bad)
 
 pub send-exclusive-spec : {M : Type 1} → statement M

@@ -15,8 +15,8 @@ returns c =
     let h = d .before .places .ensures .0 in
     let t = d .places2 .ensures .0 in
     let l = framed-length (a .opens) (a .closes) (a .n) (a .w) (a .v) (d .before .before .before .pre .0) in
-    tight (framed (a .opens) (a .closes) (a .n) (a .w) (a .v)) (a .to) (now (a .out)) _ (c .told .ensures ∙ rw (l, h, t))
-    (omega (arith, l, h, t, c .before .if1 .taken))
+    tight (framed (a .opens) (a .closes) (a .n) (a .w) (a .v)) (a .to) (now (a .out)) _
+    (c .told .ensures ∙ rw (l, h, t)) (omega (arith, l, h, t, c .before .if1 .taken))
 
 returns-2 : tie.Need-returns-2
 returns-2 c =
@@ -27,8 +27,8 @@ returns-2 c =
     let h = d .before .places .ensures .0 in
     let t = d .places2 .ensures .0 in
     let l = framed-length (a .opens) (a .closes) (a .n) (a .w) (a .v) few in
-    stored (framed (a .opens) (a .closes) (a .n) (a .w) (a .v)) (a .to) (now (a .out)) _ _ (c .told2 .ensures ∙ rw (l, h, t))
-    (omega (arith, l, h, t, d .before .before .before .pre .1))
+    stored (framed (a .opens) (a .closes) (a .n) (a .w) (a .v)) (a .to) (now (a .out)) _ _
+    (c .told2 .ensures ∙ rw (l, h, t)) (omega (arith, l, h, t, d .before .before .before .pre .1))
     (c .before .before .before .put-marked2 .ensures
     ∙ rw (m .put-payload .ensures, m .before .before .before .before .put-marked .ensures, h)
     (framed-sets (a .opens) (a .closes) (a .n) (a .w) (a .v) few (a .to) (now (a .out))))

@@ -1,4 +1,5 @@
--- `outlet::messages::send_voice` meets its contract: each way out is one of the laws of voice messages. Assumes nothing.
+-- `outlet::messages::send_voice` meets its contract: each way out is one of the laws of voice messages. Assumes
+-- nothing.
 use mathlib.Core.Path.{sym, _∙_}
 use Rattle.outlet.proofs.MessageLaws.{voice-none, voice-one, voice-two}
 use Rattle.outlet.proofs.RowLaws.{nothing}

@@ -10,6 +10,10 @@ check-spec =
     (tie.spec
     (λ c κs. search needs)
     (λ c κs. search needs)
-    (λ c. simp (tests, ← c .before .bad-place .ensures, c .if2 .taken, ← c .before .before .before .is-good-status .ensures, c .before .before .if1 .taken))
-    (λ c. simp (tests, ← c .before .bad-place .ensures, c .if2 .left, ← c .before .before .before .is-good-status .ensures, c .before .before .if1 .taken))
+    (λ c.
+    let d = c .before .before in
+    simp (tests, ← c .before .bad-place .ensures, c .if2 .taken, ← d .before .is-good-status .ensures, d .if1 .taken))
+    (λ c.
+    let d = c .before .before in
+    simp (tests, ← c .before .bad-place .ensures, c .if2 .left, ← d .before .is-good-status .ensures, d .if1 .taken))
     (λ c. simp (← c .before .is-good-status .ensures, c .if1 .left)))

@@ -17,13 +17,16 @@ send-exclusive-requires c κs =
     let a = d .before .before .before .before .before .before .before .args in
     let o = sym (d .before .before .is-ours .ensures) ∙ d .before .if2 .taken in
     let t = d .message-type .ensures in
-    (third (a .group) _ o (rw t at (c .before .before .before .before .if3 .left)) (rw t at (c .before .before .before .if4 .left)), omega arith)
+    let two = rw t at (c .before .before .before .before .if3 .left) in
+    let one = rw t at (c .before .before .before .if4 .left) in
+    (third (a .group) _ o two one, omega arith)
 
 returns : tie.Need-returns
 unfolding within stepOut
 returns c =
     let a = c .before .before .before .before .args in
-    let z = alone-cut (a .group) (packet (now (a .words))) (now (a .out)) (packet-end (now (a .words)) 0 (omega (arith, c .before .if1 .taken))) in
+    let z = alone-cut (a .group) (packet (now (a .words))) (now (a .out))
+    (packet-end (now (a .words)) 0 (omega (arith, c .before .if1 .taken))) in
     (c .report .ensures ∙ z .0, z .1)
 
 returns-2 : tie.Need-returns-2
@@ -58,8 +61,11 @@ returns-4 c =
     let a = h .before .before .before .args in
     let o = sym (d .before .before .is-ours .ensures) ∙ d .before .if2 .taken in
     let t = d .message-type .ensures in
-    let two = sized _ 3 (third (a .group) _ o (rw t at (c .before .before .before .if3 .left)) (rw t at (c .before .before .if4 .left))) in
-    let z = first-cut (a .group) (now (a .words)) (now (a .out)) (omega (arith, h .if1 .left)) (rw two (c .before .if5 .taken)) in
+    let two = rw t at (c .before .before .before .if3 .left) in
+    let one = rw t at (c .before .before .if4 .left) in
+    let n = sized _ 3 (third (a .group) _ o two one) in
+    let z = first-cut (a .group) (now (a .words)) (now (a .out)) (omega (arith, h .if1 .left))
+    (rw n (c .before .if5 .taken)) in
     (c .report2 .ensures ∙ z .0, z .1)
 
 returns-5 : tie.Need-returns-5
@@ -70,8 +76,11 @@ returns-5 c =
     let a = h .before .before .before .args in
     let o = sym (d .before .before .is-ours .ensures) ∙ d .before .if2 .taken in
     let t = d .message-type .ensures in
-    let two = sized _ 3 (third (a .group) _ o (rw t at (c .before .before .before .before .before .before .before .before .if3 .left)) (rw t at (c .before .before .before .before .before .before .before .if4 .left))) in
-    let z = first-two (a .group) (now (a .words)) (now (a .out)) (omega (arith, h .if1 .left)) two (c .before .before .before .before .before .before .if5 .left) o _ _
+    let i = c .before .before .before .before .before .before in
+    let two = rw t at (i .before .before .if3 .left) in
+    let one = rw t at (i .before .if4 .left) in
+    let n = sized _ 3 (third (a .group) _ o two one) in
+    let z = first-two (a .group) (now (a .words)) (now (a .out)) (omega (arith, h .if1 .left)) n (i .if5 .left) o _ _
     (c .before .before .before .send-exclusive .ensures) in
     (c .told-alone3 .ensures ∙ z .0, z .1)
 
@@ -81,7 +90,8 @@ returns-6 c =
     let d = c .before .before in
     let h = d .before .before .before .before in
     let a = h .before .before .before .args in
-    let z = first-cut (a .group) (now (a .words)) (now (a .out)) (omega (arith, h .if1 .left)) (rw (d .size .ensures) at (c .before .if6 .taken)) in
+    let z = first-cut (a .group) (now (a .words)) (now (a .out)) (omega (arith, h .if1 .left))
+    (rw (d .size .ensures) at (c .before .if6 .taken)) in
     (c .report3 .ensures ∙ z .0, z .1)
 
 returns-7 : tie.Need-returns-7
@@ -92,7 +102,8 @@ returns-7 c =
     let a = h .before .before .before .args in
     let n = d .size .ensures in
     let o = sym (d .before .before .is-ours .ensures) ∙ d .before .if2 .left in
-    let z = first-other (a .group) (now (a .words)) (now (a .out)) (omega (arith, h .if1 .left)) (rw n at (c .before .before .if6 .left)) o in
+    let z = first-other (a .group) (now (a .words)) (now (a .out)) (omega (arith, h .if1 .left))
+    (rw n at (c .before .before .if6 .left)) o in
     (rw (n, c .before .other-answer .ensures) at (c .report4 .ensures) ∙ z .0, z .1)
 
 pub export-first-spec : {M : Type 1} → statement M

@@ -3,7 +3,6 @@
 use mathlib.Core.Path.{sym, _∙_}
 use native.Mathlib.Omega.{arith}
 use denote.Ref.{now}
-use lib.ListN.{getD}
 use Rattle.stream.specs.Call.{within}
 use Rattle.outlet.specs.Outlet.{stepOut}
 use Rattle.outlet.proofs.RowLaws.{inside}
@@ -15,17 +14,21 @@ use Rattle.outlet.proofs.packets.export_next.Tie as tie
 passed-requires : tie.Need-passed-requires
 passed-requires c κs =
     let s = c .before .before .before .before .before .before .before .before .before .before .before in
-    (omega (arith, s .good), λ t. omega (arith, s .good, inside (c .before .before .send-voice .ensures) (s .pre .1) t))
+    let q = c .before .before .send-voice .ensures in
+    (omega (arith, s .good), λ t. omega (arith, s .good, inside q (s .pre .1) t))
 
 passed-requires-2 : tie.Need-passed-requires-2
 passed-requires-2 c κs =
     let s = c .before .before .before .before .before .before .before .before .before .before .before .before in
-    (omega (arith, s .good), λ t. omega (arith, s .good, inside (c .before .before .send-system .ensures) (s .pre .1) t))
+    let q = c .before .before .send-system .ensures in
+    (omega (arith, s .good), λ t. omega (arith, s .good, inside q (s .pre .1) t))
 
 passed-requires-3 : tie.Need-passed-requires-3
 passed-requires-3 c κs =
-    let s = c .before .before .before .before .before .before .before .before .before .before .before .before .before .before in
-    (omega (arith, s .good), λ t. omega (arith, s .good, inside (c .before .before .send-exclusive .ensures) (s .pre .1) t))
+    let d = c .before .before .before .before .before .before .before in
+    let s = d .before .before .before .before .before .before .before in
+    let q = c .before .before .send-exclusive .ensures in
+    (omega (arith, s .good), λ t. omega (arith, s .good, inside q (s .pre .1) t))
 
 send-exclusive-requires : tie.Need-send-exclusive-requires
 send-exclusive-requires c κs =
@@ -33,7 +36,9 @@ send-exclusive-requires c κs =
     let s = d .before .before .before .before .before .before in
     let o = sym (d .before .before .is-ours .ensures) ∙ d .before .if1 .taken in
     let t = d .message-type .ensures in
-    (third (s .args .group) _ o (rw t at (c .before .before .before .before .if2 .left)) (rw t at (c .before .before .before .if3 .left)), s .pre .1)
+    let two = rw t at (c .before .before .before .before .if2 .left) in
+    let one = rw t at (c .before .before .before .if3 .left) in
+    (third (s .args .group) _ o two one, s .pre .1)
 
 returns : tie.Need-returns
 unfolding within stepOut
@@ -67,8 +72,11 @@ returns-3 c =
     let a = s .args in
     let o = sym (d .before .before .is-ours .ensures) ∙ d .before .if1 .taken in
     let t = d .message-type .ensures in
-    let two = sized _ 3 (third (a .group) _ o (rw t at (c .before .before .before .if2 .left)) (rw t at (c .before .before .if3 .left))) in
-    let z = next-cut (a .group) (a .read) (a .to) (now (a .words)) (now (a .out)) (s .pre .0) (rw two (c .before .if4 .taken)) in
+    let two = rw t at (c .before .before .before .if2 .left) in
+    let one = rw t at (c .before .before .if3 .left) in
+    let n = sized _ 3 (third (a .group) _ o two one) in
+    let z = next-cut (a .group) (a .read) (a .to) (now (a .words)) (now (a .out)) (s .pre .0)
+    (rw n (c .before .if4 .taken)) in
     (c .report .ensures ∙ z .0, z .1)
 
 returns-4 : tie.Need-returns-4
@@ -79,8 +87,11 @@ returns-4 c =
     let a = s .args in
     let o = sym (d .before .before .is-ours .ensures) ∙ d .before .if1 .taken in
     let t = d .message-type .ensures in
-    let two = sized _ 3 (third (a .group) _ o (rw t at (c .before .before .before .before .before .before .before .before .if2 .left)) (rw t at (c .before .before .before .before .before .before .before .if3 .left))) in
-    let z = next-two (a .group) (a .read) (a .to) (now (a .words)) (now (a .out)) (s .pre .0) two (c .before .before .before .before .before .before .if4 .left) o _ _
+    let i = c .before .before .before .before .before .before in
+    let two = rw t at (i .before .before .if2 .left) in
+    let one = rw t at (i .before .if3 .left) in
+    let n = sized _ 3 (third (a .group) _ o two one) in
+    let z = next-two (a .group) (a .read) (a .to) (now (a .words)) (now (a .out)) (s .pre .0) n (i .if4 .left) o _ _
     (c .before .before .before .send-exclusive .ensures) in
     (c .passed3 .ensures ∙ z .0, z .1)
 
@@ -90,7 +101,8 @@ returns-5 c =
     let d = c .before .before in
     let s = d .before .before .before .before .before .before in
     let a = s .args in
-    let z = next-cut (a .group) (a .read) (a .to) (now (a .words)) (now (a .out)) (s .pre .0) (rw (d .size .ensures) at (c .before .if5 .taken)) in
+    let z = next-cut (a .group) (a .read) (a .to) (now (a .words)) (now (a .out)) (s .pre .0)
+    (rw (d .size .ensures) at (c .before .if5 .taken)) in
     (c .report2 .ensures ∙ z .0, z .1)
 
 returns-6 : tie.Need-returns-6
@@ -101,7 +113,8 @@ returns-6 c =
     let a = s .args in
     let n = d .size .ensures in
     let o = sym (d .before .before .is-ours .ensures) ∙ d .before .if1 .left in
-    let z = next-other (a .group) (a .read) (a .to) (now (a .words)) (now (a .out)) (s .pre .0) (rw n at (c .before .if5 .left)) o in
+    let z = next-other (a .group) (a .read) (a .to) (now (a .words)) (now (a .out)) (s .pre .0)
+    (rw n at (c .before .if5 .left)) o in
     (rw n at (c .report3 .ensures) ∙ z .0, z .1)
 
 pub export-next-spec : {M : Type 1} → statement M

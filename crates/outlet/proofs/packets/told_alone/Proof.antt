@@ -14,6 +14,8 @@ told-alone-spec =
     (λ c κs. search needs)
     (λ c κs. search needs)
     (λ c κs. search needs)
-    (λ c. simp (tests, c .before .before .before .before .if1 .taken, c .before .before .if2 .taken, ← c .before .check .ensures) (c .report-place .ensures))
+    (λ c.
+    let d = c .before .before in
+    simp (d .before .before .if1 .taken, d .if2 .taken, ← c .before .check .ensures) (c .report-place .ensures))
     (λ c. simp (tests, c .before .before .before .if1 .taken, c .before .if2 .left) (c .report .ensures))
     (λ c. simp (c .before .if1 .left) (c .report2 .ensures)))

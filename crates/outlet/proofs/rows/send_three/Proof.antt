@@ -18,7 +18,8 @@ returns c =
 returns-2 : tie.Need-returns-2
 returns-2 c =
     let g = c .before .before .before .args in
-    simp unary-clauses (stored (g .a ∷ g .b ∷ g .c ∷ []) (g .to) (now (g .out)) _ _ (c .told2 .ensures) (omega arith) refl)
+    simp unary-clauses
+    (stored (g .a ∷ g .b ∷ g .c ∷ []) (g .to) (now (g .out)) _ _ (c .told2 .ensures) (omega arith) refl)
 
 pub send-three-spec : {M : Type 1} → statement M
 send-three-spec =
