@@ -20,6 +20,9 @@ ghost use Rattle.cable.specs.State.{pick};
 ghost use Rattle.outlet.specs.Outlet.{six};
 ghost use Rattle.outlet.specs.Sending.{Sends, clean, framed, marked, payloadNumber, sends};
 
+// The most payload bytes that a packet has.
+const SIX: u32 = 6;
+
 // The highest bit of each of six bytes.
 const HIGH_BITS: u64 = 0x808080808080;
 
@@ -109,7 +112,7 @@ fn is_data(n: u32, w: u32, v: u32) -> bool
     ensures { λ r. ⌜ r ≡ goodFields (map seven (take n (six w v))) ⌝ }
 {
     let p = payload_number(w, v);
-    let shift = 8 * (6 - n);
+    let shift = 8 * (SIX - n);
     (p >> shift) & HIGH_BITS == 0
 }
 
@@ -119,15 +122,15 @@ fn is_clean(w: u32, v: u32) -> bool
     ensures { λ r. ⌜ r ≡ clean w v ⌝ }
 {
     let n = count(w);
-    if n <= 6 {
+    if n <= SIX {
         (status(w) <= 3) & is_data(n, w, v)
     } else {
         false
     }
 }
 
-// A packet of an exclusive: F0 stands before the complete and the start packet, F7 behind the complete and the end
-// packet.
+// A packet of an exclusive: F0 stands before the complete and the start packet, F7 behind the complete
+// and the end packet.
 pub(crate) fn send_exclusive(w: u32, v: u32, out: &mut [u8], to: usize) -> Sent
     requires { ⌜ (messageType w ≡ 3) × (to ≤ length (now out)) ⌝ }
     ensures { λ r. ⌜ Sends (sends w v) to (now (out .entry)) r (now (out .exit)) ⌝ }

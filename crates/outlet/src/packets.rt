@@ -31,6 +31,7 @@ ghost use Rattle.ump.specs.Packet.{cut, packet};
 ghost use Rattle.ump.specs.Word.{messageType};
 ghost use Rattle.fields.specs.Check.{checkedFields, goodStatus};
 ghost use Rattle.screen.specs.Screen.{checking, reserved};
+ghost use Rattle.stream.specs.Answers.{notForCable, reservedType};
 ghost use Rattle.stream.specs.Call.{sentOf, within};
 ghost use Rattle.stream.specs.Report.{reported, reportedCall};
 ghost use Rattle.stream.specs.Run.{called, run};
@@ -39,6 +40,9 @@ ghost use Rattle.outlet.specs.Sending.{callAt, callNow, onward, toldOne,
 
 // The message type of system messages.
 const SYSTEM: u32 = 1;
+
+// The words of a packet of an exclusive.
+const EXCLUSIVE_WORDS: usize = 2;
 
 // Whether a packet is of a type that has bytes, and of the group, by its first word.
 fn is_ours(group: u8, w: u32) -> bool
@@ -51,7 +55,7 @@ fn is_ours(group: u8, w: u32) -> bool
 
 // What refuses a packet that is not ours, by its first word.
 fn other_answer(w: u32) -> u32
-    ensures { λ r. ⌜ r ≡ cond (reserved (messageType w)) 4 25 ⌝ }
+    ensures { λ r. ⌜ r ≡ cond (reserved (messageType w)) reservedType notForCable ⌝ }
 {
     let t = message_type(w);
     if ((6 <= t) & (t <= 12)) | (t == 14) {
@@ -136,10 +140,15 @@ fn export_next(group: u8, words: &[u32], read: usize, out: &mut [u8], to: usize)
         if t == SYSTEM {
             return passed(send_system(w, out, to), 1, read, to);
         }
-        if words.len() - read < 2 {
+        if words.len() - read < EXCLUSIVE_WORDS {
             return report(CUT, read, to);
         }
-        return passed(send_exclusive(w, words[read + 1], out, to), 2, read, to);
+        return passed(
+            send_exclusive(w, words[read + 1], out, to),
+            EXCLUSIVE_WORDS,
+            read,
+            to,
+        );
     }
     let n = size(w);
     if words.len() - read < n {
@@ -185,11 +194,11 @@ fn export_first(group: u8, words: &[u32], out: &mut [u8]) -> Done
         if t == SYSTEM {
             return told_alone(w, 0, send_system(w, out, 0), 1);
         }
-        if words.len() < 2 {
+        if words.len() < EXCLUSIVE_WORDS {
             return report(CUT, 0, 0);
         }
         let v = words[1];
-        return told_alone(w, v, send_exclusive(w, v, out, 0), 2);
+        return told_alone(w, v, send_exclusive(w, v, out, 0), EXCLUSIVE_WORDS);
     }
     let n = size(w);
     if words.len() < n {
