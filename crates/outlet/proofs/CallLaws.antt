@@ -1,7 +1,7 @@
 -- A packet on its way out: the screening by type and group and then by the check; what a packet of the cable sends, and
 -- one that is not for it; and that a step looks at its own packet alone. Assumes nothing.
 use Prim.Native.Nat.{ℕ}
-use mathlib.Core.Path.{_≡_, refl, sym, ap, _∙_}
+use mathlib.Core.Path.{_≡_, refl}
 use mathlib.Core.Bool.{Bool, true, false, cond, not, _&&_}
 use mathlib.Core.List.{List, [], _∷_}
 use native.Mathlib.Omega.{arith}

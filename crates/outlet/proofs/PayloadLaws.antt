@@ -2,8 +2,8 @@
 -- each is a data byte. Assumes nothing.
 use Prim.Native.Nat.{ℕ, zero, suc, _+_, _-_, _*_, _/_, _%_, _^_, _≤_, _<_}
 use mathlib.Core.Path.{_≡_, refl, ap, _∙_}
-use mathlib.Core.Bool.{Bool, true, false, _&&_, and-assoc}
-use mathlib.Core.List.{List, [], _∷_, map}
+use mathlib.Core.Bool.{true, _&&_, and-assoc}
+use mathlib.Core.List.{[], map}
 use native.Mathlib.Omega.{arith}
 use native.Mathlib.Nat.{zero-add}
 use lib.Bits.{and-block, and-high, bitAnd}

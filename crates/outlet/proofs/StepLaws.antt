@@ -8,7 +8,7 @@ use native.Mathlib.Omega.{arith}
 use native.Mathlib.Nat.{add-zero, sub-zero}
 use native.Mathlib.Numerals.{add-one}
 use lib.Dec.{eqb, leb, leb·zero}
-use lib.ListN.{drop, getD, length, length-drop, take}
+use lib.ListN.{drop, getD, length, length-drop}
 use lib.Seq.{drop-cons, length-take-le}
 use borrow.Author.Tests.{eqb-false, eqb-true, leb-true, ne-eqb}
 use Rattle.ground.specs.Store.{written}
@@ -26,7 +26,6 @@ use Rattle.stream.specs.Report.{counting, placing, reportedCall}
 use Rattle.screen.specs.Screen.{reserved}
 use Rattle.stream.specs.Run.{called, run}
 use Rattle.stream.proofs.RunLoop.{DidRun, Then, turn}
-use Rattle.cable.specs.Put.{Put}
 use Rattle.cable.specs.State.{pick}
 use Rattle.outlet.specs.declared.Sent.{Sent}
 use Rattle.outlet.specs.Outlet.{bytesOf, ours, packetOut, stepOut}

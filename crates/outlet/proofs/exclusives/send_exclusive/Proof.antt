@@ -1,6 +1,5 @@
 -- `outlet::exclusives::send_exclusive` meets its contract: what is good goes on with its count. Assumes nothing.
 use mathlib.Core.Path.{sym, _∙_}
-use native.Mathlib.Omega.{arith}
 use Rattle.outlet.proofs.ExclusiveLaws.{exclusive-few, exclusive-none, exclusive-some}
 use Rattle.outlet.proofs.RowLaws.{nothing}
 use borrow.Author.Needs.{needs}

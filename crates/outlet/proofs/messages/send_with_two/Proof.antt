@@ -1,5 +1,4 @@
 -- `outlet::messages::send_with_two` meets its contract: the data bytes are asked first. Assumes nothing.
-use Rattle.ground.proofs.Tests.{tests}
 use Rattle.cable.specs.State.{pick}
 use Rattle.outlet.specs.Sending.{withTwo}
 use Rattle.outlet.proofs.RowLaws.{nothing}
