@@ -5,9 +5,7 @@ use crate::SIX;
 use crate::hearing::needed;
 ghost use mathlib.Core.Path.{_≡_};
 ghost use mathlib.Core.Bool.{cond};
-ghost use mathlib.Core.List.{[], _∷_};
-ghost use Prim.Native.Nat.{_<_};
-ghost use Rattle.cable.specs.State.{holding, pushed, slot, sound, voiceByte};
+ghost use Rattle.cable.specs.State.{slot, sound, voiceByte};
 ghost use Rattle.cable.specs.State;
 
 // One of two by a test.
@@ -24,54 +22,16 @@ fn is_voice(b: u8) -> bool
     (0x80 <= b) & (b < 0xF0)
 }
 
-// Nothing is held of what is open.
-pub(crate) fn fresh(running: u8, status: u8) -> Cable
-    ensures { λ r. ⌜ r ≡ holding running status 0 [] ⌝ }
-{
-    Cable {
-        running,
-        status,
-        begun: 0,
-        count: 0,
-        held: [0; 6],
-    }
-}
-
 // A cable on which nothing was heard yet.
 pub fn idle() -> Cable
     ensures { λ r. ⌜ r ≡ State.idle 0 ⌝ }
 {
-    fresh(0, 0)
-}
-
-// One byte is held.
-pub(crate) fn first_held(running: u8, status: u8, begun: u8, byte: u8) -> Cable
-    ensures { λ r. ⌜ r ≡ holding running status begun (byte ∷ []) ⌝ }
-{
     Cable {
-        running,
-        status,
-        begun,
-        count: 1,
-        held: [byte, 0, 0, 0, 0, 0],
-    }
-}
-
-// One more byte is held, in its place.
-pub(crate) fn with_byte(byte: u8, s: Cable) -> Cable
-    requires { ⌜ s .count < 6 ⌝ }
-    ensures { λ r. ⌜ r ≡ pushed byte s ⌝ }
-{
-    let n = s.count;
-    let at = n as usize;
-    let mut held = s.held;
-    held[at] = byte;
-    Cable {
-        running: s.running,
-        status: s.status,
-        begun: s.begun,
-        count: n + 1,
-        held,
+        running: 0,
+        status: 0,
+        begun: 0,
+        count: 0,
+        held: [0; 6],
     }
 }
 
