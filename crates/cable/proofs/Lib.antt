@@ -1,3 +1,4 @@
 pub mod Ways
 pub mod PutLaws
 mod ReceiverLaws
+mod SoundWays

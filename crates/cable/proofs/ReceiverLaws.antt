@@ -1,5 +1,5 @@
--- The held bytes as two numbers: six bytes come back from them, one byte more stands in its place, and together they are
--- the words of the packet. Assumes nothing.
+-- The held bytes as two numbers: six bytes come back from them, one byte more stands in its place, and the last four
+-- are the second word of the packet. Assumes nothing.
 use Prim.Native.Nat.{ℕ, _+_, _*_, _/_, _%_, _^_, _<_}
 use mathlib.Core.Path.{_≡_, refl}
 use mathlib.Core.List.{List, [], _∷_}

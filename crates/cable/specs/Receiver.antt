@@ -1,5 +1,5 @@
--- What a receiver remembers, and what a byte comes to in it, read as a cable. The bytes that are held stand where they
--- stand in the packet: the first two in `high`, as in the low half of its first word, and the others in `low`, its second.
+-- What a receiver remembers, and what a byte comes to in it, read as a cable. The held bytes stand as in the packet:
+-- the first two in `high`, the low half of its first word, and the others in `low`, its second word.
 use Prim.Native.Nat.{ℕ, _/_, _%_, _^_}
 use mathlib.Core.List.{List, [], _∷_}
 use Rattle.cable.specs.declared.Cable.{Cable}

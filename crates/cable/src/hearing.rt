@@ -81,7 +81,12 @@ fn message(w: u32, after: Receiver) -> Received
 
 // The packet of all that is held.
 fn packet(answer: u32, read: usize, g: u8, form: u8, s: Receiver, after: Receiver) -> Received
-    ensures { λ r. ⌜ heardOf r ≡ told (record { answer = answer; read = read; sends = packetOf g form (cableOf s); after = cableOf after }) ⌝ }
+    ensures { λ r. ⌜ heardOf r ≡ told (record {
+      answer = answer;
+      read = read;
+      sends = packetOf g form (cableOf s);
+      after = cableOf after;
+    }) ⌝ }
 {
     let first = 0x30000000
         + wide(g % 16) * 0x1000000

@@ -224,7 +224,8 @@ module _ (g : ℕ) (s₀ : Cable) (a out₀ : List ℕ) where
     left r = 2 * (length a - (i + r .read)) + opened (r .after)
 
     -- after one more call that had room the invariant holds again, and less is left to do
-    pub turn : (r : Imported) (after : List ℕ) → r ≡ took (fitIn free s c) → after ≡ written n (fitIn free s c .sends) out
+    pub turn : (r : Imported) (after : List ℕ) → r ≡ took (fitIn free s c)
+        → after ≡ written n (fitIn free s c .sends) out
         → (r .answer ≡ noRoom → ⊥)
         → Runs (r .after) after (i + r .read) (n + r .written) × (left r < 2 * (length a - i) + opened s)
     turn r after e f z =
@@ -304,9 +305,12 @@ module _ (g : ℕ) (s₀ : Cable) (a out₀ : List ℕ) where
 
       -- it was the only one
       pub one-made : once ≡ true
-          → Does once (record { answer = r .answer; read = i + r .read; written = n + r .written; after = r .after }) after
+          → Does once (record { answer = r .answer; read = i + r .read; written = n + r .written; after = r .after })
+          after
       one-made o =
           let b = x .first o in
           let v = the-first b in
+          let stored : after ≡ atStart (single .sends) out₀ =
+          f ∙ rw (v, b .wrote, b .output) (start-written (single .sends) out₀) in
           rw (o, b .read, b .wrote, zero-add (r .read), zero-add (r .written))
-          (record { reports = e ∙ ap took v; holds = f ∙ rw (v, b .wrote, b .output) (start-written (single .sends) out₀) })
+          (record { reports = e ∙ ap took v; holds = stored })

@@ -26,7 +26,8 @@ returns c =
     let e = b .take-byte .ensures in
     rw (c .report .ensures)
     (stops (a .group) (cableOf (a .first)) (now (a .bytes)) (now (a .out)) (a .once)
-    (cableOf (l .state)) (l .out) (l .read) (l .written) (l .inv) (b .before .before .before .loop-test .taken) _ _ (e .0) (e .1)
+    (cableOf (l .state)) (l .out) (l .read) (l .written) (l .inv)
+    (b .before .before .before .loop-test .taken) _ _ (e .0) (e .1)
     (c .before .if1 .taken))
 
 add-read : tie.Need-add-read Inv-loop μ-loop
@@ -36,7 +37,8 @@ add-read c =
     let a = b .before .before .before .before .before .before .before .args in
     let e = b .take-byte .ensures in
     let z = turn (a .group) (cableOf (a .first)) (now (a .bytes)) (now (a .out))
-    (cableOf (l .state)) (l .out) (l .read) (l .written) (l .inv .runs) (b .before .before .before .loop-test .taken) _ _ (e .0) (e .1)
+    (cableOf (l .state)) (l .out) (l .read) (l .written) (l .inv .runs)
+    (b .before .before .before .loop-test .taken) _ _ (e .0) (e .1)
     (c .before .if1 .left) in
     let bound : l .read + b .take-byte .result .read ≤ length (now (a .bytes)) = z .0 .read in
     let cap : length (now (a .bytes)) < 2 ^ 64 =
@@ -51,7 +53,8 @@ add-written c =
     let a = b .before .before .before .before .before .before .before .args in
     let e = b .take-byte .ensures in
     let z = turn (a .group) (cableOf (a .first)) (now (a .bytes)) (now (a .out))
-    (cableOf (l .state)) (l .out) (l .read) (l .written) (l .inv .runs) (b .before .before .before .loop-test .taken) _ _ (e .0) (e .1)
+    (cableOf (l .state)) (l .out) (l .read) (l .written) (l .inv .runs)
+    (b .before .before .before .loop-test .taken) _ _ (e .0) (e .1)
     (c .before .before .if1 .left) in
     let cap : length (now (a .out)) < 2 ^ 64 =
     omega (arith, b .before .before .before .before .before .before .before .good) in
@@ -67,7 +70,8 @@ same-length-2 c =
     let a = b .before .before .before .before .before .before .before .args in
     let e = b .take-byte .ensures in
     turn (a .group) (cableOf (a .first)) (now (a .bytes)) (now (a .out))
-    (cableOf (l .state)) (l .out) (l .read) (l .written) (l .inv .runs) (b .before .before .before .loop-test .taken) _ _ (e .0) (e .1)
+    (cableOf (l .state)) (l .out) (l .read) (l .written) (l .inv .runs)
+    (b .before .before .before .loop-test .taken) _ _ (e .0) (e .1)
     (c .before .before .before .before .before .if1 .left) .0 .long
 
 returns-2 : tie.Need-returns-2 Inv-loop μ-loop
@@ -78,7 +82,8 @@ returns-2 c =
     let e = b .take-byte .ensures in
     rw (c .report2 .ensures)
     (one-made (a .group) (cableOf (a .first)) (now (a .bytes)) (now (a .out)) (a .once)
-    (cableOf (l .state)) (l .out) (l .read) (l .written) (l .inv) (b .before .before .before .loop-test .taken) _ _ (e .0) (e .1)
+    (cableOf (l .state)) (l .out) (l .read) (l .written) (l .inv)
+    (b .before .before .before .loop-test .taken) _ _ (e .0) (e .1)
     (c .before .if2 .taken))
 
 loop-less : tie.Need-loop-less Inv-loop μ-loop
@@ -88,7 +93,8 @@ loop-less c =
     let a = b .before .before .before .before .before .before .before .args in
     let e = b .take-byte .ensures in
     goes-on (a .group) (cableOf (a .first)) (now (a .bytes)) (now (a .out)) (a .once)
-    (cableOf (l .state)) (l .out) (l .read) (l .written) (l .inv) (b .before .before .before .loop-test .taken) _ _ (e .0) (e .1)
+    (cableOf (l .state)) (l .out) (l .read) (l .written) (l .inv)
+    (b .before .before .before .loop-test .taken) _ _ (e .0) (e .1)
     (c .if2 .left) (c .before .before .before .before .if1 .left) .1
 
 loop-again : tie.Need-loop-again Inv-loop μ-loop
@@ -98,7 +104,8 @@ loop-again c =
     let a = b .before .before .before .before .before .before .before .args in
     let e = b .take-byte .ensures in
     goes-on (a .group) (cableOf (a .first)) (now (a .bytes)) (now (a .out)) (a .once)
-    (cableOf (l .state)) (l .out) (l .read) (l .written) (l .inv) (b .before .before .before .loop-test .taken) _ _ (e .0) (e .1)
+    (cableOf (l .state)) (l .out) (l .read) (l .written) (l .inv)
+    (b .before .before .before .loop-test .taken) _ _ (e .0) (e .1)
     (c .if2 .left) (c .before .before .before .before .if1 .left) .0
 
 returns-3 : tie.Need-returns-3 Inv-loop μ-loop

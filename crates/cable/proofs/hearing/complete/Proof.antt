@@ -14,5 +14,19 @@ complete-spec =
     (λ c κs. search needs)
     (λ c κs. search needs)
     (λ c κs. search needs)
-    (λ c. simp (tests, c .message .ensures, c .before .fresh .ensures, c .before .before .message-word .ensures, c .before .before .before .if1 .taken))
-    (λ c. simp (tests, c .message2 .ensures, c .before .fresh2 .ensures, c .before .before .message-word2 .ensures, c .before .before .before .if1 .left)))
+    (λ c.
+    simp (
+      tests,
+      c .message .ensures,
+      c .before .fresh .ensures,
+      c .before .before .message-word .ensures,
+      c .before .before .before .if1 .taken,
+    ))
+    (λ c.
+    simp (
+      tests,
+      c .message2 .ensures,
+      c .before .fresh2 .ensures,
+      c .before .before .message-word2 .ensures,
+      c .before .before .before .if1 .left,
+    )))

@@ -17,5 +17,19 @@ message-in-spec =
     (λ c κs. search needs)
     (λ c κs. search needs)
     (λ c κs. search needs)
-    (λ c. simp (tests, c .first-in .ensures, c .before .needed .ensures, c .before .before .if2 .taken, c .before .before .before .before .if1 .left))
-    (λ c. simp (tests, c .complete .ensures, c .before .low-byte .ensures, c .before .before .before .if2 .left, c .before .before .before .before .before .if1 .left)))
+    (λ c.
+    simp (
+      tests,
+      c .first-in .ensures,
+      c .before .needed .ensures,
+      c .before .before .if2 .taken,
+      c .before .before .before .before .if1 .left,
+    ))
+    (λ c.
+    simp (
+      tests,
+      c .complete .ensures,
+      c .before .low-byte .ensures,
+      c .before .before .before .if2 .left,
+      c .before .before .before .before .before .if1 .left,
+    )))

@@ -14,8 +14,9 @@ returns c =
     let z = c .before .before .before .wide in
     let a = c .before .before .before .before .args in
     let s = a .s in
+    let head = 0x30000000 + a .g % 16 * 2 ^ 24 + a .form * 2 ^ 20 + s .count * 2 ^ 16 in
     let first : 0x30000000 + z .result * 2 ^ 24 + y .result * 2 ^ 20 + x .result * 2 ^ 16 + s .high % 65536
-    ≡ 0x30000000 + a .g % 16 * 2 ^ 24 + a .form * 2 ^ 20 + s .count * 2 ^ 16 + s .high / 2 ^ 8 % 256 * 2 ^ 8 + s .high % 256 =
+    ≡ head + s .high / 2 ^ 8 % 256 * 2 ^ 8 + s .high % 256 =
     omega (arith, z .ensures .0, y .ensures .0, x .ensures .0) in
     rw (low-whole (s .low) (omega arith), first)
 
