@@ -53,6 +53,7 @@ fn message_word(g: u8, b: u8, x: u8, y: u8) -> u32
         + wide(y)
 }
 
+// Nothing is sent.
 fn silent(answer: u32, read: usize, after: Receiver) -> Received
     ensures { λ r. ⌜ heardOf r ≡ told (record { answer = answer; read = read; sends = []; after = cableOf after }) ⌝ }
 {
@@ -66,6 +67,7 @@ fn silent(answer: u32, read: usize, after: Receiver) -> Received
     }
 }
 
+// A word is sent, and the byte is read.
 fn message(w: u32, after: Receiver) -> Received
     ensures { λ r. ⌜ heardOf r ≡ told (record { answer = 0; read = 1; sends = w ∷ []; after = cableOf after }) ⌝ }
 {
@@ -162,6 +164,7 @@ fn message_in(s: Receiver, g: u8, status: u8, b: u8) -> Received
     }
 }
 
+// A data byte: of the exclusive that is open, or of a message.
 fn data_in(s: Receiver, g: u8, b: u8) -> Received
     ensures { λ r. ⌜ heardOf r ≡ told (dataIn (cableOf s) g b) ⌝ }
 {
