@@ -16,8 +16,8 @@ voice-up-requires c κs =
     let e = sym (ap messageType (c .before .before .before .word-at .ensures)) ∙ sym (c .before .before .message-type .ensures) ∙ c .before .if1 .taken in
     (omega (arith, voice-inside (now (a .words)) (a .past .read) e), sym (c .before .before .message-type .ensures) ∙ c .before .if1 .taken)
 
-other-up-requires : tie.Need-other-up-requires
-other-up-requires c κs =
+onward-requires : tie.Need-onward-requires
+onward-requires c κs =
     let a = c .before .before .before .before .before .before .before .args in
     rw (c .before .packet-at .ensures) (next-few (drop (a .past .read) (now (a .words))), next-fits (now (a .words)) (a .past .read) (omega arith) (omega arith))
 
@@ -34,7 +34,7 @@ returns-2 c =
     let p = c .before .before .before .before .before .packet-at in
     let e = other-packet (now (a .words)) (a .past .read) (λ z. c .before .before .before .before .before .before .if1 .left (c .before .before .before .before .before .before .before .message-type .ensures ∙ ap messageType (c .before .before .before .before .before .before .before .before .word-at .ensures) ∙ z)) in
     let z = onward-turn (a .past) (now (p .result)) (now (a .out)) (a .«record») (a .rule) _ (rw (← p .ensures) at e) in
-    let k = c .before .before .before .other-up .ensures in
+    let k = c .before .before .before .onward .ensures in
     rw (c .stays .ensures, k .0, ← p .ensures) (z .0, k .1 ∙ z .1)
 
 pub up-spec : {M : Type 1} → statement M
@@ -44,7 +44,7 @@ up-spec =
     (λ c κs. search needs) (λ c κs. search needs)
     voice-up-requires
     (λ c κs. search needs)
-    other-up-requires
+    onward-requires
     (λ c κs. search needs) (λ c. search needs)
     returns
     (λ c. search needs)
