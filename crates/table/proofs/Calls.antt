@@ -30,6 +30,7 @@ use denote.Triple.Clauses.{lasts}
 use denote.Triple.Walked.{says}
 use Rattle.channel.specs.declared.Record.{Record}
 use Rattle.table.specs.declared.Progress.{Progress}
+use Rattle.table.specs.declared.Ended.{Ended}
 use Rattle.stream.specs.declared.Done.{Done}
 use Rattle.voice.specs.declared.EffectAndReport.{EffectAndReport}
 use Rattle.table.specs.declared.Job.{Job}
@@ -41,10 +42,11 @@ use Rattle.channel.specs.Record.{empty, sound as isSound, wholeTable}
 use Rattle.channel.proofs.Record.empty as none
 use Rattle.channel.proofs.Record.is_sound as asks
 use Rattle.table.specs.Job.{asked, askedReport, knownRun, recordStep, runTold, tableStep, wholeRun}
+use Rattle.table.specs.Ended.{endedBy, reportIn}
 use Rattle.table.specs.Next.{outputAfterCall, reportAfterCall, stateAfter, turnAt}
 use Rattle.table.proofs.Turns.{begun, moved}
 use Rattle.table.proofs.TableLaws.{placeAt}
-use Rattle.table.proofs.Values.{N, valsN, madeN, R, valR, valsR, tellsR, madeR, J, valJ, valsJ, tellsJ, madeJ, P, valP, valsP, tellsP, S, valS, valsS, tellsS, D, valD, valsD, tellsD, madeD}
+use Rattle.table.proofs.Values.{N, valsN, madeN, R, valR, valsR, tellsR, madeR, J, valJ, valsJ, tellsJ, madeJ, P, valP, valsP, tellsP, S, valS, valsS, tellsS, D, valD, valsD, tellsD, madeD, Z, valZ, valsZ, tellsZ, madeZ}
 use Rattle.ground.proofs.Post.{result-is, result-with, left-one, left-two}
 use Rattle.table.proofs.start as start
 use Rattle.table.proofs.place_of as place
@@ -57,6 +59,9 @@ use Rattle.table.proofs.step as step
 use Rattle.table.proofs.onward as onward
 use Rattle.table.proofs.one as one
 use Rattle.table.proofs.treat as treat
+use Rattle.table.proofs.go_through as through
+use Rattle.table.proofs.ending as ending
+use Rattle.table.proofs.report_of as reports
 use Rattle.table.proofs.run_knowing as knowing
 use Rattle.table.proofs.run_told as tells
 
@@ -193,9 +198,51 @@ module _ {M : Type 1} (𝓤 : URA M) (H : Heap 𝓤) (A : Atoms 𝓤) (W : Given
         (λ t ws. (t ≡ s′) × (ws .1 .1 .1 .1 .0 ≡ os′)) (length os′ ≡ length (y .now)) (finally u32 (y .name) os′) (λ t ws. as-pair 𝓤 _ _) (λ t ws e. e .0)
         (λ t ws e. qed W (‵ (lasts step.ended (κ, (κ′, tt)) (w, (j, (p, (r, (y, tt))))) ws) ∷ []) ∵ fsplit ! $ drop ! $ fsplit ! $ drop ! $ fsplit ! $ drop ! $ fsplit ! $ drop ! $ by ! (left-one 𝓤 H A W u32 y _ os′ (e .1)))
 
-  -- ---- one and treat: each takes the words, the job, the table and the output
+  -- ---- ending and report_of
+  abbrev pub Ending : Contract 𝓤
+  Ending = tripleOf 𝓤 H A ending.signature (ending.spec 𝓤 H A mem run)
+
+  abbrev pub ReportOf : Contract 𝓤
+  ReportOf = tripleOf 𝓤 H A reports.signature (reports.spec 𝓤 H A mem run)
+
+  module _ (d : Done) where
+    abbrev pub to-ending : Ending .Ghost
+    to-ending = ((tt, tt, tt, (d, tt), (valsD d, tt)), tt)
+
+    pub ending-pre : Is D d (valsD d) → ent 𝓤 (emp 𝓤) (Ending .pre to-ending)
+    ending-pre is = qed W [] ∵ suffices ! _ (∗emp 𝓤 _) $ nothing ! $ frame ! $ nothing ! $
+        owned ! D (Is D) (madeD 𝓤 H A W) d _ is $ done !
+
+    abbrev e₀ : Ended
+    e₀ = endedBy d
+
+    pub ending-post : (v : Val) → ent 𝓤 (Ending .post to-ending v)
+        (H .⇛ (guard 𝓤 ((v ≡ valZ e₀) × Is Z e₀ (valsZ e₀)) (emp 𝓤)))
+    ending-post = result-is 𝓤 H A W ending.ended (ending.clauses 𝓤 H A mem run) (to-ending .0) tt valsZ tellsZ e₀
+        (λ r ws. id⊢ 𝓤 _)
+
+  module _ (e : Ended) where
+    abbrev pub to-report : ReportOf .Ghost
+    to-report = ((tt, tt, tt, (e, tt), (valsZ e, tt)), tt)
+
+    pub report-pre : Is Z e (valsZ e) → ent 𝓤 (emp 𝓤) (ReportOf .pre to-report)
+    report-pre is = qed W [] ∵ suffices ! _ (∗emp 𝓤 _) $ nothing ! $ frame ! $ nothing ! $
+        owned ! Z (Is Z) (madeZ 𝓤 H A W) e _ is $ done !
+
+    abbrev d₀ : Done
+    d₀ = reportIn e
+
+    pub report-post : (v : Val) → ent 𝓤 (ReportOf .post to-report v)
+        (H .⇛ (guard 𝓤 ((v ≡ valD d₀) × Is D d₀ (valsD d₀)) (emp 𝓤)))
+    report-post = result-is 𝓤 H A W reports.ended (reports.clauses 𝓤 H A mem run) (to-report .0) tt valsD tellsD d₀
+        (λ r ws. id⊢ 𝓤 _)
+
+  -- ---- one, go_through and treat: each takes the words, the job, the table and the output
   abbrev pub One : Contract 𝓤
   One = tripleOf 𝓤 H A one.signature (one.spec 𝓤 H A mem run)
+
+  abbrev pub Through : Contract 𝓤
+  Through = tripleOf 𝓤 H A through.signature (through.spec 𝓤 H A mem run)
 
   abbrev pub Treat : Contract 𝓤
   Treat = tripleOf 𝓤 H A treat.signature (treat.spec 𝓤 H A mem run)
@@ -245,6 +292,29 @@ module _ {M : Type 1} (𝓤 : URA M) (H : Heap 𝓤) (A : Atoms 𝓤) (W : Given
           (λ r ws. as-one 𝓤 _ _ _) (λ r ws e. e .0)
           (λ r ws e. qed W (‵ (lasts one.ended κs (w, (j, (p, (x, (y, tt))))) ws) ∷ []) ∵ fsplit ! $ drop ! $ fsplit ! $ drop ! $ fsplit ! $ drop ! $ by ! (left-two 𝓤 H A W R u32 x y _ tb′ _ out′ (e .1) (e .2)))
 
+    abbrev pub to-through : Through .Ghost
+    to-through = ((κs, qs, tt, (w, (j, (x, (y, tt)))), (slice-vals w, (valsJ j, (slice-vals x, (slice-vals y, tt))))), tt)
+
+    pub through-pre : Is J j (valsJ j) → ent 𝓤 (⋆ 𝓤 H A (‵ (flft κ₀ q₀) ∷ ‵ (flft κ₁ q₁) ∷ ‵ (flft κ₂ q₂) ∷ ‵ W₀ ∷ ‵ X₁ ∷ ‵ Y₂ ∷ [])) (Through .pre to-through)
+    through-pre is-j =
+        qed W (‵ (flft κ₀ q₀) ∷ ‵ (flft κ₁ q₁) ∷ ‵ (flft κ₂ q₂) ∷ ‵ W₀ ∷ ‵ X₁ ∷ ‵ Y₂ ∷ []) ∵ suffices ! _ (∗emp 𝓤 _) $
+        nothing ! $ move ! (3 ∷ 0 ∷ []) $ join ! $ move ! (2 ∷ 0 ∷ []) $ join ! $ move ! (1 ∷ 0 ∷ []) $ join ! $ frame ! $
+        nothing ! $ move ! (3 ∷ 0 ∷ []) $ fjoin ! $ move ! (2 ∷ 0 ∷ []) $ fjoin ! $ owned ! J (Is J) (madeJ 𝓤 H A W) j _ is-j $ fjoin ! $ move ! (1 ∷ 0 ∷ []) $ done !
+
+    abbrev r′ : Ran (ℕ × List Record)
+    r′ = asked j (length (y .now)) (x .now) (w .now)
+
+    abbrev e′ : Ended
+    e′ = endedBy (askedReport j (w .now) r′)
+
+    pub through-post : (v : Val) → ent 𝓤 (Through .post to-through v) (H .⇛ (guard 𝓤 (((v ≡ valZ e′) × Is Z e′ (valsZ e′)) × ((length (r′ .left .1) ≡ length (x .now)) × (length (atStart (r′ .sends) (y .now)) ≡ length (y .now))))
+        (sep 𝓤 (alive 𝓤 H A through.signature κs qs) (sem 𝓤 H A (fsep (finally R (x .name) (r′ .left .1)) (finally u32 (y .name) (atStart (r′ .sends) (y .now))))))))
+    through-post = result-with 𝓤 H A W through.ended (through.clauses 𝓤 H A mem run) (to-through .0) tt valsZ tellsZ e′
+        (λ r ws. (r ≡ e′) × (ws .1 .1 .0 ≡ r′ .left .1) × (ws .1 .1 .1 .0 ≡ atStart (r′ .sends) (y .now))) ((length (r′ .left .1) ≡ length (x .now)) × (length (atStart (r′ .sends) (y .now)) ≡ length (y .now)))
+        (fsep (finally R (x .name) (r′ .left .1)) (finally u32 (y .name) (atStart (r′ .sends) (y .now))))
+        (λ r ws. as-one 𝓤 _ _ _) (λ r ws e. e .0)
+        (λ r ws e. qed W (‵ (lasts through.ended κs (w, (j, (x, (y, tt)))) ws) ∷ []) ∵ fsplit ! $ drop ! $ fsplit ! $ drop ! $ by ! (left-two 𝓤 H A W R u32 x y _ (r′ .left .1) _ (atStart (r′ .sends) (y .now)) (e .1) (e .2)))
+
     abbrev pub to-treat : Treat .Ghost
     to-treat = ((κs, qs, tt, (w, (j, (x, (y, tt)))), (slice-vals w, (valsJ j, (slice-vals x, (slice-vals y, tt))))), tt)
 
@@ -253,9 +323,6 @@ module _ {M : Type 1} (𝓤 : URA M) (H : Heap 𝓤) (A : Atoms 𝓤) (W : Given
         qed W (‵ (flft κ₀ q₀) ∷ ‵ (flft κ₁ q₁) ∷ ‵ (flft κ₂ q₂) ∷ ‵ W₀ ∷ ‵ X₁ ∷ ‵ Y₂ ∷ []) ∵ suffices ! _ (∗emp 𝓤 _) $
         nothing ! $ move ! (3 ∷ 0 ∷ []) $ join ! $ move ! (2 ∷ 0 ∷ []) $ join ! $ move ! (1 ∷ 0 ∷ []) $ join ! $ frame ! $
         nothing ! $ move ! (3 ∷ 0 ∷ []) $ fjoin ! $ move ! (2 ∷ 0 ∷ []) $ fjoin ! $ owned ! J (Is J) (madeJ 𝓤 H A W) j _ is-j $ fjoin ! $ move ! (1 ∷ 0 ∷ []) $ done !
-
-    abbrev r′ : Ran (ℕ × List Record)
-    r′ = asked j (length (y .now)) (x .now) (w .now)
 
     pub treat-post : (v : Val) → ent 𝓤 (Treat .post to-treat v) (H .⇛ (guard 𝓤 (((v ≡ valD (askedReport j (w .now) r′)) × Is D (askedReport j (w .now) r′) (valsD (askedReport j (w .now) r′))) × ((length (r′ .left .1) ≡ length (x .now)) × (length (atStart (r′ .sends) (y .now)) ≡ length (y .now))))
         (sep 𝓤 (alive 𝓤 H A treat.signature κs qs) (sem 𝓤 H A (fsep (finally R (x .name) (r′ .left .1)) (finally u32 (y .name) (atStart (r′ .sends) (y .now))))))))

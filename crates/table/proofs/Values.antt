@@ -30,6 +30,7 @@ use Rattle.stream.specs.declared.Done.{Done}
 use Rattle.stream.proofs.Done as TD
 use Rattle.stream.proofs.Done.Laws as TD′
 use Rattle.table.specs.declared.Progress.{Progress}
+use Rattle.table.specs.declared.Ended.{Ended}
 use Rattle.voice.specs.declared.EffectAndReport.{EffectAndReport}
 use Rattle.table.specs.declared.Job.{Job}
 use Rattle.table.specs.declared.TableAndReport.{TableAndReport}
@@ -37,6 +38,8 @@ use Rattle.table.proofs.Job as TJ
 use Rattle.table.proofs.Job.Laws as TJ′
 use Rattle.table.proofs.Progress as TP
 use Rattle.table.proofs.Progress.Laws as TP′
+use Rattle.table.proofs.Ended as TZ
+use Rattle.table.proofs.Ended.Laws as TZ′
 use Rattle.voice.proofs.EffectAndReport as TS
 use Rattle.voice.proofs.EffectAndReport.Laws as TS′
 use Rattle.table.proofs.TableAndReport as TT
@@ -106,6 +109,19 @@ tellsD = LL.tells TD.the-type TD′.the-laws
 
 pub done-is : (p : Progress) → Is P p (valsP p) → Is D (p .done) (valsD (p .done))
 done-is p g = LL.owed TP.the-type TP′.the-laws p (valsP p) g .0
+
+-- ---- Ended
+abbrev pub Z : RattleType
+Z = TZ.the-row
+
+abbrev pub valZ : Ended → Val
+valZ = LL.val TZ.the-type TZ′.the-laws
+
+abbrev pub valsZ : Ended → List Val
+valsZ = LL.vals TZ.the-type TZ′.the-laws
+
+abbrev pub tellsZ : Tells Z (Is Z) valsZ
+tellsZ = LL.tells TZ.the-type TZ′.the-laws
 
 -- ---- EffectAndReport, and its parts
 abbrev pub S : RattleType
@@ -180,6 +196,9 @@ module _ {M : Type 1} (𝓤 : URA M) (H : Heap 𝓤) (A : Atoms 𝓤) (W : Given
   pub typedD : (d : Done) → Is D d (valsD d) → Holds (hasTy TD′.mir (valD d)) × WT (valD d)
   typedD d g = LL.lawful TD.the-type TD′.the-laws 𝓤 H A W .typed d (valsD d) g .0
 
+  pub typedZ : (e : Ended) → Is Z e (valsZ e) → Holds (hasTy TZ′.mir (valZ e)) × WT (valZ e)
+  typedZ e g = LL.lawful TZ.the-type TZ′.the-laws 𝓤 H A W .typed e (valsZ e) g .0
+
   abbrev pub madeR : Makes 𝓤 H A R (Is R)
   madeR = LL.makes TR.the-type TR′.the-plain 𝓤 H A
 
@@ -197,6 +216,9 @@ module _ {M : Type 1} (𝓤 : URA M) (H : Heap 𝓤) (A : Atoms 𝓤) (W : Given
 
   abbrev pub madeD : Makes 𝓤 H A D (Is D)
   madeD = LL.makes TD.the-type TD′.the-plain 𝓤 H A
+
+  abbrev pub madeZ : Makes 𝓤 H A Z (Is Z)
+  madeZ = LL.makes TZ.the-type TZ′.the-plain 𝓤 H A
 
 -- ---- the types of the locals that are slices, at a lifetime
 abbrev pub tyWords : Lifetime → Ty

@@ -86,8 +86,8 @@ fn is_found_sound(known: bool, memory: Memory) -> bool
     if known { true } else { memory.is_sound() }
 }
 
-// A MIDI 1.0 voice message, by its one word, under a rule. It is screened once: what is found lets it go on to its record, or
-// is what refuses it.
+// A MIDI 1.0 voice message, by its one word, under a rule. It is screened once: what is found lets it go on to its
+// record, or is what refuses it.
 fn voice_up(
     past: Done,
     record: Record,
