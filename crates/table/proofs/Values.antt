@@ -1,4 +1,5 @@
--- The structs that the walks move: each one's type, its machine value, and that the value has its MIR type. And the types of locals that are slices, and where a record of the table lies.
+-- The structs that the walks move: each one's type, its machine value, and that the value has its MIR type. And the
+-- types of locals that are slices, and where a record of the table lies.
 -- Assumes nothing, but `Given` for the types of machine values.
 use Prim.Native.Nat.{ℕ, _<_, _*_, _^_}
 use native.Mathlib.Nat.{lt-of-le-of-lt, lt-of-lt-of-le, mul-le-mul-right, le-of-lt}
@@ -156,21 +157,38 @@ U = TT.the-row
 abbrev pub valOf : Val → Done → Val
 valOf v d = vstruct (ofList (v ∷ valD d ∷ []))
 
-each-to : (xs : List Record) (us : List Val) → shadow (each Record (R .own) xs us) → shadow (each (TR.the-field .row .Denot) (TR.the-field .row .own) (map (TR.the-field .into) xs) us)
+each-to : (xs : List Record) (us : List Val) → shadow (each Record (R .own) xs us) → shadow (each (TR.the-field .row
+    .Denot) (TR.the-field .row .own) (map (TR.the-field .into) xs) us)
 each-to [] [] s = tt
 each-to [] (u ∷ us) s = absurd s
 each-to (x ∷ xs) [] s = absurd s
 each-to (x ∷ xs) (u ∷ us) s = (s .0, each-to xs us (s .1))
 
-pub table-is : (u : TableAndReport) (v : Val) → Is (Array R 256) (u .records) (v ∷ []) → Is D (u .done) (valsD (u .done)) → Is U u (valOf v (u .done) ∷ [])
+pub table-is : (u : TableAndReport) (v : Val) → Is (Array R 256) (u .records) (v ∷ []) → Is D (u .done) (valsD (u
+    .done)) → Is U u (valOf v (u .done) ∷ [])
 table-is u v is-a is-d = (
   (v ∷ [], (valsD (u .done), tt)),
-  (refl, ((is-a .0, ((is-a .1 .0 .0, length-map (u .records) (TR.the-field .into) ∙ is-a .1 .0 .1), each-to (u .records) (is-a .0) (is-a .1 .1))), (is-d, tt))),
+  (
+    refl,
+    (
+      (
+        is-a .0,
+        (
+          (is-a .1 .0 .0, length-map (u .records) (TR.the-field .into) ∙ is-a .1 .0 .1),
+          each-to (u .records)
+              (is-a .0) (is-a .1 .1),
+        ),
+      ),
+      (is-d, tt),
+    ),
+  ),
 )
 
 module _ {M : Type 1} (𝓤 : URA M) (H : Heap 𝓤) (A : Atoms 𝓤) (W : Given 𝓤 H A) where
-  pub typedArray : (tb : List Record) (v : Val) → Is (Array R 256) tb (v ∷ []) → Holds (hasTy (tyArray TR′.mir 256) v) × WT v
-  typedArray tb v g = array-typed R (λ x vs h. LL.lawful TR.the-type TR′.the-laws 𝓤 H A W .typed x vs h) 256 tb (v ∷ []) g .0
+  pub typedArray : (tb : List Record) (v : Val) → Is (Array R 256) tb (v ∷ []) → Holds (hasTy (tyArray TR′.mir 256) v) ×
+      WT v
+  typedArray tb v g = array-typed R (λ x vs h. LL.lawful TR.the-type TR′.the-laws 𝓤 H A W .typed x vs h) 256 tb (v ∷ [])
+      g .0
 
   pub typedU : (u : TableAndReport) (v : Val) → Is U u (v ∷ []) → Holds (hasTy TT′.mir v) × WT v
   typedU u v g = LL.lawful TT.the-type TT′.the-laws 𝓤 H A W .typed u (v ∷ []) g .0

@@ -3,8 +3,8 @@
 // The loop never copies the table.
 //
 // `treat` has no `requires`, and promises the call or the run itself, on every input. What it is to do
-// is a job; `run_told` makes that of a run over a table that may be known to be sound. `run_from` lends
-// `treat` a table that the caller has by value.
+// is a job; `run_told` makes that of a run over a table that may be known to be sound. `run_from` does it
+// with a table that the caller has by value.
 use channel::RECORDS;
 use channel::Record;
 use effect::LEAVES;
@@ -45,8 +45,8 @@ struct Progress {
     more: bool,
 }
 
-// A report as the loop hands it over. No two fields stand side by side as in `Done`, so that each is copied by itself: two
-// at once would wait until both are written.
+// A report as the loop hands it over. No two fields stand side by side as in `Done`, so that each is copied by itself:
+// two that are copied at once wait until both are written.
 struct Ended {
     written: usize,
     answer: u32,

@@ -306,14 +306,15 @@ check-refused rule ok d w r out s v e n =
     )
 
 -- one that the screening lets go on: it speaks where its record is sound, and else it stops
-module _ (rule : Rule) (ok : Bool) (d : Done) (w : ℕ) (r : Record) (out : List ℕ) (s : Screened) (v : messageType w ≡ voice1)
-    (e : s ≡ screenVoice1 rule w) (g : s .answer ≡ goesOn) where
+module _ (rule : Rule) (ok : Bool) (d : Done) (w : ℕ) (r : Record) (out : List ℕ) (s : Screened)
+    (v : messageType w ≡ voice1) (e : s ≡ screenVoice1 rule w) (g : s .answer ≡ goesOn) where
   abbrev Acted : Call Record
   Acted = screened (screenBy rule voice2 (w ∷ [])) r (speakIf ok r w)
 
   passes-word : Acted ≡ speakIf ok r w
   passes-word =
-      passes (screenBy rule voice2 (w ∷ [])) r (speakIf ok r w) (sym (ap (λ (x : Screened). x .answer) (e ∙ screen-word rule w v)) ∙ g)
+      passes (screenBy rule voice2 (w ∷ [])) r (speakIf ok r w)
+      (sym (ap (λ (x : Screened). x .answer) (e ∙ screen-word rule w v)) ∙ g)
 
   pub may-speak : ok ≡ true → Acted ≡ spoken r w
   may-speak h = passes-word ∙ speaks-sound ok r w h

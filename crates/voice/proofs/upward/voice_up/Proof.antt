@@ -1,4 +1,5 @@
--- `voice::upward::voice_up` meets its contract: what the screening finds of its one word refuses it, or else whether its
+-- `voice::upward::voice_up` meets its contract: what the screening finds of its one word refuses it, or else whether
+-- its
 -- record is sound decides between the message and a stop. Assumes nothing.
 use mathlib.Core.Path.{sym, _∙_}
 use mathlib.Core.Bool.{_||_}
