@@ -1,23 +1,21 @@
 -- One packet of a run, and one call: what they tell of a packet's bytes is what its call reports, with room and
 -- without. Assumes nothing.
-use Prim.Native.Nat.{ℕ, zero, suc, _+_, _-_, _≤_, _<_}
+use Prim.Native.Nat.{ℕ, suc, _+_, _-_, _≤_, _<_}
 use mathlib.Core.Path.{_≡_, refl, sym, ap, _∙_}
 use mathlib.Core.Bool.{Bool, true, false, cond, _&&_}
 use mathlib.Core.List.{List, [], _∷_}
 use native.Mathlib.Omega.{arith}
 use native.Mathlib.Nat.{add-zero, sub-zero}
-use native.Mathlib.Numerals.{add-one}
 use lib.Dec.{eqb, leb, leb·zero}
-use lib.ListN.{drop, getD, length, length-drop}
-use lib.Seq.{drop-cons, length-take-le}
+use lib.ListN.{drop, getD, length}
 use borrow.Author.Tests.{eqb-false, eqb-true, leb-true, ne-eqb}
 use Rattle.ground.specs.Store.{written}
 use Rattle.ground.proofs.Bools.{and-left, and-right}
 use Rattle.ground.proofs.Cases.{by-bool}
 use Rattle.ground.proofs.StoreLaws.{written-none}
-use Rattle.ump.specs.Packet.{cut, first, packet, second, size, sizes}
+use Rattle.ump.specs.Packet.{cut, first, packet, second, size}
 use Rattle.ump.specs.Word.{groupOf, messageType}
-use Rattle.ump.proofs.PacketLaws.{packet-short, packet-whole-at, size-range}
+use Rattle.ump.proofs.PacketLaws.{one-word, packet-short, size-range, two-words, whole-words}
 use Rattle.fields.specs.Check.{badPlaceOf, goodStatus}
 use Rattle.stream.specs.declared.Done.{Done}
 use Rattle.stream.specs.Answers.{badData, cutPacket, sent, takenIn}
@@ -34,11 +32,6 @@ use Rattle.outlet.proofs.CallLaws.{Outs, choice, cut-out, other-out, ot
 use Rattle.outlet.proofs.CallLaws.{out-inside, out-near, verdict}
 use Rattle.outlet.proofs.RowLaws.{nothing}
 
--- the size by the type
-pub sized : (w t : ℕ) → messageType w ≡ t → size w ≡ getD sizes t 0
-unfolding size
-sized w t e = rw e
-
 -- of the types of ours the third is left
 pub third : (g w : ℕ) → ours g w ≡ true → (messageType w ≡ 2 → ⊥) → (messageType w ≡ 1 → ⊥) → messageType w ≡ 3
 third g w o two one =
@@ -46,32 +39,6 @@ third g w o two one =
     let low = leb-true 1 (messageType w) (and-left (leb 1 (messageType w)) (leb (messageType w) 3) t) in
     let high = leb-true (messageType w) 3 (and-right (leb 1 (messageType w)) (leb (messageType w) 3) t) in
     omega (arith, low, high, one, two)
-
--- the packet at a place, by the size of its first word
-module _ (ws : List ℕ) (at : ℕ) (here : at < length ws) where
-  abbrev word : ℕ
-  word = getD ws at 0
-
-  pub one-word : size word ≡ 1 → packet (drop at ws) ≡ word ∷ []
-  one-word e = packet-whole-at ws at here (omega (arith, e)) ∙ rw (e, drop-cons ws at 0 here)
-
-  pub two-words : size word ≡ 2 → 2 ≤ length ws - at → packet (drop at ws) ≡ word ∷ getD ws (at + 1) 0 ∷ []
-  two-words e h =
-      packet-whole-at ws at here (omega (arith, e))
-      ∙ rw (e, drop-cons ws at 0 here, drop-cons ws (suc at) 0 (omega arith), ← add-one at)
-
-  pub whole-words : size word ≤ length ws - at
-      → (first (packet (drop at ws)) ≡ word) × (length (packet (drop at ws)) ≡ size word)
-  whole-words h = go (size word) refl (size-range word)
-    where
-      go : (n : ℕ) → size word ≡ n → (1 ≤ size word) × (size word ≤ 4)
-          → (first (packet (drop at ws)) ≡ word) × (length (packet (drop at ws)) ≡ size word)
-      go zero e r = absurd (omega (arith, e, r .0))
-      go (suc n) e r = (
-        rw (packet-whole-at ws at here h, e, drop-cons ws at 0 here),
-        rw (packet-whole-at ws at here h)
-            (length-take-le (size word) (drop at ws) (omega (arith, length-drop at ws, h))),
-      )
 
 -- what became of a packet that goes, in a run
 module _

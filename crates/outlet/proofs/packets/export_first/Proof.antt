@@ -3,10 +3,10 @@ use mathlib.Core.Path.{sym, _∙_}
 use native.Mathlib.Omega.{arith}
 use denote.Ref.{now}
 use Rattle.ump.specs.Packet.{packet}
-use Rattle.ump.proofs.PacketLaws.{packet-end}
+use Rattle.ump.proofs.PacketLaws.{packet-end, size-by}
 use Rattle.stream.specs.Call.{within}
 use Rattle.outlet.specs.Outlet.{stepOut}
-use Rattle.outlet.proofs.StepLaws.{alone-cut, first-cut, first-one, first-other, first-two, sized, third}
+use Rattle.outlet.proofs.StepLaws.{alone-cut, first-cut, first-one, first-other, first-two, third}
 use borrow.Author.Needs.{needs}
 use Rattle.outlet.proofs.packets.export_first.Statement.{statement}
 use Rattle.outlet.proofs.packets.export_first.Tie as tie
@@ -37,7 +37,7 @@ returns-2 c =
     let a = h .before .before .before .args in
     let o = sym (d .before .before .is-ours .ensures) ∙ d .before .if2 .taken in
     let t = sym (d .message-type .ensures) ∙ c .before .before .before .before .before .if3 .taken in
-    let z = first-one (a .group) (now (a .words)) (now (a .out)) (omega (arith, h .if1 .left)) (sized _ 2 t) o _ _
+    let z = first-one (a .group) (now (a .words)) (now (a .out)) (omega (arith, h .if1 .left)) (size-by _ 2 t) o _ _
     (c .before .before .before .send-voice .ensures) in
     (c .told-alone .ensures ∙ z .0, z .1)
 
@@ -49,7 +49,7 @@ returns-3 c =
     let a = h .before .before .before .args in
     let o = sym (d .before .before .is-ours .ensures) ∙ d .before .if2 .taken in
     let t = sym (d .message-type .ensures) ∙ c .before .before .before .before .before .if4 .taken in
-    let z = first-one (a .group) (now (a .words)) (now (a .out)) (omega (arith, h .if1 .left)) (sized _ 1 t) o _ _
+    let z = first-one (a .group) (now (a .words)) (now (a .out)) (omega (arith, h .if1 .left)) (size-by _ 1 t) o _ _
     (c .before .before .before .send-system .ensures) in
     (c .told-alone2 .ensures ∙ z .0, z .1)
 
@@ -63,7 +63,7 @@ returns-4 c =
     let t = d .message-type .ensures in
     let two = rw t at (c .before .before .before .if3 .left) in
     let one = rw t at (c .before .before .if4 .left) in
-    let n = sized _ 3 (third (a .group) _ o two one) in
+    let n = size-by _ 3 (third (a .group) _ o two one) in
     let z = first-cut (a .group) (now (a .words)) (now (a .out)) (omega (arith, h .if1 .left))
     (rw n (c .before .if5 .taken)) in
     (c .report2 .ensures ∙ z .0, z .1)
@@ -79,7 +79,7 @@ returns-5 c =
     let i = c .before .before .before .before .before .before in
     let two = rw t at (i .before .before .if3 .left) in
     let one = rw t at (i .before .if4 .left) in
-    let n = sized _ 3 (third (a .group) _ o two one) in
+    let n = size-by _ 3 (third (a .group) _ o two one) in
     let z = first-two (a .group) (now (a .words)) (now (a .out)) (omega (arith, h .if1 .left)) n (i .if5 .left) o _ _
     (c .before .before .before .send-exclusive .ensures) in
     (c .told-alone3 .ensures ∙ z .0, z .1)

@@ -6,7 +6,8 @@ use denote.Ref.{now}
 use Rattle.stream.specs.Call.{within}
 use Rattle.outlet.specs.Outlet.{stepOut}
 use Rattle.outlet.proofs.RowLaws.{inside}
-use Rattle.outlet.proofs.StepLaws.{next-cut, next-one, next-other, next-two, sized, third}
+use Rattle.ump.proofs.PacketLaws.{size-by}
+use Rattle.outlet.proofs.StepLaws.{next-cut, next-one, next-other, next-two, third}
 use borrow.Author.Needs.{needs}
 use Rattle.outlet.proofs.packets.export_next.Statement.{statement}
 use Rattle.outlet.proofs.packets.export_next.Tie as tie
@@ -48,7 +49,7 @@ returns c =
     let a = s .args in
     let o = sym (d .before .before .is-ours .ensures) ∙ d .before .if1 .taken in
     let t = sym (d .message-type .ensures) ∙ c .before .before .before .before .before .if2 .taken in
-    let z = next-one (a .group) (a .read) (a .to) (now (a .words)) (now (a .out)) (s .pre .0) (sized _ 2 t) o _ _
+    let z = next-one (a .group) (a .read) (a .to) (now (a .words)) (now (a .out)) (s .pre .0) (size-by _ 2 t) o _ _
     (c .before .before .before .send-voice .ensures) in
     (c .passed .ensures ∙ z .0, z .1)
 
@@ -60,7 +61,7 @@ returns-2 c =
     let a = s .args in
     let o = sym (d .before .before .is-ours .ensures) ∙ d .before .if1 .taken in
     let t = sym (d .message-type .ensures) ∙ c .before .before .before .before .before .if3 .taken in
-    let z = next-one (a .group) (a .read) (a .to) (now (a .words)) (now (a .out)) (s .pre .0) (sized _ 1 t) o _ _
+    let z = next-one (a .group) (a .read) (a .to) (now (a .words)) (now (a .out)) (s .pre .0) (size-by _ 1 t) o _ _
     (c .before .before .before .send-system .ensures) in
     (c .passed2 .ensures ∙ z .0, z .1)
 
@@ -74,7 +75,7 @@ returns-3 c =
     let t = d .message-type .ensures in
     let two = rw t at (c .before .before .before .if2 .left) in
     let one = rw t at (c .before .before .if3 .left) in
-    let n = sized _ 3 (third (a .group) _ o two one) in
+    let n = size-by _ 3 (third (a .group) _ o two one) in
     let z = next-cut (a .group) (a .read) (a .to) (now (a .words)) (now (a .out)) (s .pre .0)
     (rw n (c .before .if4 .taken)) in
     (c .report .ensures ∙ z .0, z .1)
@@ -90,7 +91,7 @@ returns-4 c =
     let i = c .before .before .before .before .before .before in
     let two = rw t at (i .before .before .if2 .left) in
     let one = rw t at (i .before .if3 .left) in
-    let n = sized _ 3 (third (a .group) _ o two one) in
+    let n = size-by _ 3 (third (a .group) _ o two one) in
     let z = next-two (a .group) (a .read) (a .to) (now (a .words)) (now (a .out)) (s .pre .0) n (i .if4 .left) o _ _
     (c .before .before .before .send-exclusive .ensures) in
     (c .passed3 .ensures ∙ z .0, z .1)
