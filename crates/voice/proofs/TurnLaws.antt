@@ -3,12 +3,12 @@ use mathlib.Core.Path.{_≡_, refl, sym, ap, _∙_}
 use mathlib.Core.Bool.{Bool, true, false, cond}
 use mathlib.Core.Logic.{⊎-elim}
 use mathlib.Core.Option.{Option, none, some}
-use mathlib.Core.List.{List, [], _∷_, map}
+use mathlib.Core.List.{List, [], _∷_}
 use Prim.Native.Nat.{ℕ, zero, suc, _+_, _-_, _<_, _≤_, _^_}
 use native.Mathlib.Omega.{arith}
 use native.Mathlib.Nat.{add-zero}
 use lib.Dec.{eqb, leb, leb·zero, ltb}
-use lib.ListN.{List·getD-eq-default, drop, drop-of-length-le, getD, length, length-drop, length-map, length-take, take}
+use lib.ListN.{List·getD-eq-default, drop, drop-of-length-le, getD, length, length-drop, length-take, take}
 use lib.Seq.{drop-cons, sets, sets-eq}
 use borrow.Author.Tests.{eqb-false, eqb-true, le-leb, lt-leb, ltb-false, ltb-true, ne-eqb}
 use Rattle.ground.specs.Store.{written}
@@ -18,7 +18,7 @@ use Rattle.ump.specs.Word.{channelOf, groupOf, messageType, voice1, voice2}
 use Rattle.ump.specs.Packet.{first, packet, size}
 use Rattle.ump.proofs.PacketLaws.{packet-length, packet-size, size-range}
 use Rattle.stream.specs.declared.Done.{Done}
-use Rattle.stream.specs.Answers.{noForm, noRoom, notSound, sent, stopsRun, takenIn}
+use Rattle.stream.specs.Answers.{noRoom, notSound, sent, stopsRun, takenIn}
 use Rattle.stream.specs.Call.{Call, answerOf, leftOf, readOf, refused, sentOf, stopped, went}
 use Rattle.stream.specs.Report.{counting, placeTold, placing}
 use Rattle.stream.proofs.CallLaws.{refusal, refused-fits}
@@ -27,20 +27,17 @@ use Rattle.screen.specs.declared.Screened.{Screened}
 use Rattle.screen.specs.Screen.{goesOn, screenBy, screenVoice1, screened}
 use Rattle.screen.proofs.ScreenLaws.{cut-only, refused-above, screen-place, screen-word}
 use Rattle.channel.specs.declared.Record.{Record}
-use Rattle.channel.specs.Record.{sound}
-use Rattle.message.specs.Message.{Midi1, Midi2, read1, read2, write1}
+use Rattle.message.specs.Message.{Midi2, read1}
 use Rattle.lift.specs.declared.UpwardMessage.{UpwardMessage}
 use Rattle.effect.specs.Effect.{leaves}
 use Rattle.lift.specs.Lift.{effectOf, lift}
 use Rattle.lift.specs.Played.{recordAfter}
 use Rattle.lift.specs.Values.{messageIn, sendingIn}
 use Rattle.lower.specs.declared.UpToFourWords.{UpToFourWords}
-use Rattle.lower.specs.Lower.{lower}
-use Rattle.lower.specs.Values.{packed, wordsIn}
-use Rattle.lower.proofs.LowerLaws.{lower-few}
+use Rattle.lower.specs.Values.{packed}
 use Rattle.voice.specs.declared.EffectAndReport.{EffectAndReport}
 use Rattle.voice.specs.Output.{sentWords}
-use Rattle.voice.specs.Packet.{effectAt, onwardOf, packetDownBy, packetIf, sending, sendingDown, speakDown, speakIf, spoken, voiceDown}
+use Rattle.voice.specs.Packet.{effectAt, onwardOf, packetIf, sending, speakIf, spoken}
 use Rattle.voice.specs.Turn.{effectBy, inRoom, next, outputAfter, outputOf, reportAfter, reportOf, turned}
 use Rattle.voice.proofs.PacketLaws.{packet-voice1}
 
@@ -235,36 +232,6 @@ module _ (d : Done) (p out : List ℕ) (r : Done) (o : List ℕ) where
         rw (← e) (refuses {T = Unit {0}} s tt act n) in
         let told : s .place ≡ placeTold (s .answer) p = rw (← e) at (screen-place rule wrong p) in
         rw k (f ∙ ap (λ (x : ℕ). placing (s .answer) x (d .read + length p) (d .written)) told ∙ sym (refused-report {T = Unit {0}} d p out tt (s .answer) no-packet), g ∙ refused-output {T = Unit {0}} d p out tt (s .answer) no-packet)
-
-  -- a MIDI 2.0 message: without a form, or with
-  module _ (w v : ℕ) (x : UpToFourWords) (e : x ≡ wordsIn w (lower (read2 w v))) where
-    pub formless-comes : x .count ≡ 0 → r ≡ counting noForm (d .read + length p) (d .written) → o ≡ out → Comes (speakDown w v)
-    unfolding speakDown
-    formless-comes n f g = go (lower (read2 w v)) e
-      where
-        go : (ms : List Midi1) → x ≡ wordsIn w ms → Comes (sendingDown (groupOf w) (channelOf w) ms)
-        go [] k = rw (leb·zero (length out - d .written)) (f ∙ rw (add-zero (d .written)), g ∙ sym (written-none (d .written) out))
-        go (m ∷ ms) k = let z = ap (λ (y : UpToFourWords). y .count) k in absurd (omega arith)
-
-    pub form-comes : (x .count ≡ 0 → ⊥) → r ≡ reportAfter d (length p) out (sentWords x) → o ≡ outputAfter d out (sentWords x)
-        → Comes (speakDown w v)
-    unfolding speakDown
-    form-comes n f g = go (lower (read2 w v)) e (lower-few (read2 w v))
-      where
-        go : (ms : List Midi1) → x ≡ wordsIn w ms → length ms ≤ 4 → Comes (sendingDown (groupOf w) (channelOf w) ms)
-        go [] k l = absurd (n (ap (λ (y : UpToFourWords). y .count) k))
-        go (m ∷ ms) k l =
-            sent-comes x (map (write1 (groupOf w) (channelOf w)) (m ∷ ms)) k (omega (arith, l, length-map ms (write1 (groupOf w) (channelOf w)))) f g
-
--- going down, a packet that is a MIDI 2.0 voice message, and one that is not
-pub down-voice : (rule : Rule) (p : List ℕ) → messageType (first p) ≡ voice2
-    → packetDownBy rule p ≡ screened (screenBy rule voice1 p) tt (voiceDown p)
-unfolding packetDownBy
-down-voice rule p e = rw e
-
-pub down-other : (rule : Rule) (p : List ℕ) → (messageType (first p) ≡ voice2 → ⊥) → packetDownBy rule p ≡ onwardOf rule voice1 p
-unfolding packetDownBy
-down-other rule p n = rw (ne-eqb (messageType (first p)) voice2 n)
 
 -- at most as many words as are left, and at most four
 pub next-fits : (ws : List ℕ) (i : ℕ) → length ws < 2 ^ 64 → i < 2 ^ 64 → i + length (packet (drop i ws)) < 2 ^ 64
