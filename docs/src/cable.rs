@@ -2,21 +2,26 @@
 //! and such packets become bytes again. Read from request M-100, from the build specification's
 //! rules for cable bytes and from its layouts.
 
-use crate::{
-    bad_data, check_packet, decimal, refused, size, stopped, words_of, Done, ABOVE_15, BAD_DATA,
-    COMPLETE, CONTINUE, CUT, END, NOT_SOUND, OUTPUT_SHORT, RESERVED_TYPE, SENT, START, TAKEN_IN,
-};
+#[path = "cable_out.rs"]
+mod out;
+#[path = "cable_run.rs"]
+mod run;
 
 #[cfg(test)]
 #[path = "cable_tests.rs"]
 mod tests;
 
+pub use out::{export, run_export, NOT_FOR_CABLE};
+pub use run::run_import;
+
+use crate::{
+    decimal, words_of, ABOVE_15, COMPLETE, CONTINUE, CUT, END, NOT_SOUND, OUTPUT_SHORT, SENT,
+    START, TAKEN_IN,
+};
+
 // Import has these two, and 0, 1, 3, 8, 9 and 24.
 pub const DROPPED: u32 = 11;
 pub const CUT_OFF: u32 = 12;
-
-// Export has this one between 4 and 6, and 24 before all others.
-pub const NOT_FOR_CABLE: u32 = 25;
 
 const START_OF_EXCLUSIVE: u8 = 0xF0;
 const END_OF_EXCLUSIVE: u8 = 0xF7;
@@ -115,8 +120,15 @@ impl Cable {
             }
         };
         let runs = self.running == 0 || is_voice(self.running);
-        let held_well = |(place, byte): (usize, &u8)| *byte <= if place < count { 127 } else { 0 };
-        open && runs && self.held.iter().enumerate().all(held_well)
+        open && runs && self.held_well()
+    }
+
+    /// Whether the bytes held are data bytes, and the places behind them are 0, for six at most.
+    fn held_well(&self) -> bool {
+        let [a, b, c, d, e, f] = self.held;
+        let (first, last) = (u32::from_le_bytes([a, b, c, d]), u16::from_le_bytes([e, f]));
+        let held = u64::from(first) | u64::from(last) << 32;
+        held & 0x8080_8080_8080 == 0 && held >> (8 * self.count) == 0
     }
 
     fn holding(mut self, byte: u8) -> Cable {
@@ -253,6 +265,7 @@ fn not_imported(answer: u32, cable: Cable) -> Imported {
 }
 
 /// Takes the byte at the start of these bytes from a cable.
+#[inline(always)]
 pub fn import(cable: Cable, group: u8, bytes: &[u8], out: &mut [u32]) -> Imported {
     if group > 15 {
         return not_imported(ABOVE_15, cable);
@@ -264,105 +277,19 @@ pub fn import(cable: Cable, group: u8, bytes: &[u8], out: &mut [u32]) -> Importe
         return not_imported(CUT, cable);
     };
     let step = cable.step(group, *byte);
-    let size = step.packet.size;
-    let Some(place) = out.get_mut(..size) else {
-        return not_imported(OUTPUT_SHORT, cable);
-    };
-    place.copy_from_slice(&step.packet.words[..size]);
+    let Packet { words, size } = step.packet;
+    match (size, out) {
+        (0, _) => (),
+        (1, [place, ..]) => *place = words[0],
+        (2, [first, second, ..]) => [*first, *second] = words,
+        _ => return not_imported(OUTPUT_SHORT, cable),
+    }
     Imported {
         answer: step.answer,
         read: step.read,
         written: size,
         after: step.after,
     }
-}
-
-/// Takes byte after byte from a cable. A message that is open at the end stays in the cable.
-pub fn run_import(cable: Cable, group: u8, bytes: &[u8], out: &mut [u32]) -> Imported {
-    let mut total = not_imported(SENT, cable);
-    loop {
-        let rest = &bytes[total.read..];
-        let one = import(total.after, group, rest, &mut out[total.written..]);
-        total.read += one.read;
-        total.written += one.written;
-        total.after = one.after;
-        match one.answer {
-            CUT => return total,
-            ABOVE_15 | NOT_SOUND | OUTPUT_SHORT => {
-                total.answer = one.answer;
-                return total;
-            }
-            _ => (),
-        }
-    }
-}
-
-/// Turns the packet at the start of the words into bytes for a cable, if it is of the chosen group.
-pub fn export(group: u8, words: &[u32], out: &mut [u8]) -> Done {
-    if group > 15 {
-        return stopped(ABOVE_15);
-    }
-    let size = words.first().map_or(1, |word| size(*word));
-    let Some(packet) = words.get(..size) else {
-        return stopped(CUT);
-    };
-    match check_for_cable(group, packet) {
-        SENT => (),
-        BAD_DATA => return bad_data(packet),
-        answer => return refused(answer, size),
-    }
-    let bytes = cable_bytes(packet);
-    let Some(place) = out.get_mut(..bytes.len()) else {
-        return stopped(OUTPUT_SHORT);
-    };
-    place.copy_from_slice(&bytes);
-    Done {
-        answer: if bytes.is_empty() { TAKEN_IN } else { SENT },
-        place: 0,
-        read: size,
-        written: bytes.len(),
-    }
-}
-
-/// Which answer a whole packet gets before room is asked for.
-fn check_for_cable(group: u8, packet: &[u32]) -> u32 {
-    let first = packet[0];
-    let in_group = first >> 24 & 15 == u32::from(group);
-    match first >> 28 {
-        0x6..=0xC | 0xE => RESERVED_TYPE,
-        1..=3 if in_group => check_packet(packet),
-        _ => NOT_FOR_CABLE,
-    }
-}
-
-/// The bytes of a packet that was checked. Every status byte is written.
-fn cable_bytes(packet: &[u32]) -> Vec<u8> {
-    let [_, status, a, b] = packet[0].to_be_bytes();
-    let Some(second) = packet.get(1) else {
-        return [&[status], &[a, b][..data_bytes(status)]].concat();
-    };
-    let [c, d, e, f] = second.to_be_bytes();
-    let payload = &[a, b, c, d, e, f][..usize::from(status & 15)];
-    match u32::from(status >> 4) {
-        COMPLETE => [&[START_OF_EXCLUSIVE], payload, &[END_OF_EXCLUSIVE]].concat(),
-        START => [&[START_OF_EXCLUSIVE], payload].concat(),
-        CONTINUE => payload.to_vec(),
-        _ => [payload, &[END_OF_EXCLUSIVE]].concat(),
-    }
-}
-
-/// Turns packet after packet into bytes for a cable.
-pub fn run_export(group: u8, words: &[u32], out: &mut [u8]) -> Done {
-    let mut total = stopped(if group > 15 { ABOVE_15 } else { SENT });
-    while total.answer == SENT && total.read < words.len() {
-        let one = export(group, &words[total.read..], &mut out[total.written..]);
-        total.read += one.read;
-        total.written += one.written;
-        if let CUT | OUTPUT_SHORT = one.answer {
-            total.answer = one.answer;
-        }
-    }
-    total
 }
 
 /// The group that the arguments of a program choose. There is none if they are not one group at most.

@@ -1,6 +1,7 @@
 //! Tests of the five-pin sockets.
 
 use super::*;
+use crate::{refused, size, stopped, Done};
 
 const UNTOUCHED: u32 = 0xAAAA_AAAA;
 
@@ -376,6 +377,74 @@ fn a_run_is_its_calls_one_after_another() {
     }
 }
 
+/// Single calls one after another, until one has no room or no byte is left.
+fn calls(mut cable: Cable, bytes: &[u8], out: &mut [u32]) -> Imported {
+    let (mut read, mut written) = (0, 0);
+    loop {
+        let one = import(cable, 3, &bytes[read..], &mut out[written..]);
+        read += one.read;
+        written += one.written;
+        cable = one.after;
+        if let CUT | OUTPUT_SHORT = one.answer {
+            return Imported {
+                answer: if one.answer == CUT {
+                    SENT
+                } else {
+                    OUTPUT_SHORT
+                },
+                read,
+                written,
+                after: cable,
+            };
+        }
+    }
+}
+
+/// Fails unless a run does what its calls do, with room for none to all of its words.
+fn hold_run(cable: Cable, bytes: &[u8]) {
+    let most = calls(cable, bytes, &mut vec![0; 2 * bytes.len() + 2]).written;
+    for room in 0..=most {
+        let mut outs = [(); 2].map(|_| vec![UNTOUCHED; room]);
+        let expected = calls(cable, bytes, &mut outs[0]);
+        let done = run_import(cable, 3, bytes, &mut outs[1]);
+        assert_eq!(done, expected, "{bytes:02X?} on {cable:02X?}");
+        assert_eq!(outs[0], outs[1], "{bytes:02X?} on {cable:02X?}");
+    }
+}
+
+#[test]
+fn a_run_over_thrown_bytes_stops_where_its_calls_do() {
+    let mut seed = 3;
+    for count in 0..1_000 {
+        hold_run(cable_idle(), &thrown_bytes(&mut seed, count % 40));
+    }
+}
+
+#[test]
+fn a_run_over_any_three_bytes_is_its_calls_on_any_cable() {
+    const BYTES: [u8; 19] = [
+        0, 127, 0x80, 0x9F, 0xB3, 0xC0, 0xDF, 0xE1, 0xEF, 0xF0, 0xF1, 0xF2, 0xF3, 0xF4, 0xF6, 0xF7,
+        0xF8, 0xF9, 0xFF,
+    ];
+    let mut cables = vec![cable_idle()];
+    for running in [0x92, 0xC2] {
+        cables.push(cable(running, 0, 0, &[]));
+        cables.push(cable(running, running, 0, &[]));
+    }
+    cables.push(cable(0x92, 0x92, 0, &[1]));
+    for status in [0x8F, 0xD0, 0xF1, 0xF2, 0xF3] {
+        cables.push(cable(0, status, 0, &[]));
+    }
+    cables.push(cable(0, 0xF2, 0, &[127]));
+    cables.extend((0..=6).map(|count| cable(0, 0xF0, 0, &[1, 2, 3, 4, 5, 127][..count])));
+    cables.extend((1..=6).map(|count| cable(0, 0xF0, 1, &[1, 2, 3, 4, 5, 127][..count])));
+    for cable in cables {
+        for (a, b) in BYTES.iter().flat_map(|a| BYTES.map(|b| (*a, b))) {
+            BYTES.map(|c| hold_run(cable, &[a, b, c]));
+        }
+    }
+}
+
 #[test]
 fn real_time_bytes_leave_all_other_packets_as_they_were() {
     let mut seed = 2;
@@ -595,12 +664,9 @@ fn an_exclusive_comes_back_whatever_the_sizes_of_its_packets() {
         ] {
             let mut held = [0xFF; 6];
             held[..count].copy_from_slice(&payload[place..place + count]);
-            let state = Cable {
-                count: count as u8,
-                held,
-                ..cable_idle()
-            };
-            words.extend(state.exclusive_packet(0, status).words);
+            let [a, b, c, d, e, f] = held;
+            let head = [0x30, status << 4 | count as u8, a, b];
+            words.extend([head, [c, d, e, f]].map(u32::from_be_bytes));
             place += count;
         }
         let bytes = exported_bytes(&words);

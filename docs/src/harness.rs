@@ -1,16 +1,13 @@
 //! Holds single calls, runs, lessons, replays, questions and marks of the product's static library
-//! to the reading, those in the beginners' room and those of two hosts among them, or times both.
+//! to the reading, those in the beginners' room and those of two hosts among them.
 //! Usage: harness [CASES] with the number of random cases, which follow millions of swept ones and
-//! come before half as many random lessons and half as many random replays;
-//! or: harness time
+//! come before half as many random lessons and half as many random replays
 
 mod entries;
 mod host_sweeps;
 mod packets;
 mod replays;
 mod tally;
-mod timing;
-mod traffic;
 
 use entries::{entry, every_value, Entries, ENTRIES};
 use host_sweeps::{throw_host, Hosts, LONGEST_OWNERS};
@@ -1402,18 +1399,6 @@ fn product_lesson(words: &[u32], coarse: &[u16], out: &mut [u32]) -> Done {
     }
 }
 
-fn time_all() {
-    let product = timing::Side {
-        run_up: product_run_up,
-        lesson: product_lesson,
-    };
-    let reading = timing::Side {
-        run_up: reading::run_up,
-        lesson: reading::lesson,
-    };
-    timing::compare([product, reading]);
-}
-
 fn compare_all(random_cases: usize) {
     // It takes nothing and gives back a plain record.
     let product_empty = unsafe { quernbrae_empty() };
@@ -1456,8 +1441,7 @@ fn compare_all(random_cases: usize) {
 
 fn main() {
     match std::env::args().nth(1).as_deref() {
-        Some("time") => time_all(),
-        Some(cases) => compare_all(cases.parse().expect("usage: harness [CASES | time]")),
+        Some(cases) => compare_all(cases.parse().expect("usage: harness [CASES]")),
         None => compare_all(DEFAULT_CASES),
     }
 }

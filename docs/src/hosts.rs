@@ -1,8 +1,8 @@
 //! Two hosts on one box: whose a group is, what one host may call for, and how a group changes hands.
 
 use super::{
-    down_packet, empty, keys_down, mark_coarse, no_keys, refused, run, size, stopped, up_packet,
-    whole_table, Done, Keys, Record, ABOVE_15, ANY_ROOM, LENT, NOT_256_RECORDS,
+    down_packet, empty, keys_down, mark_coarse, no_keys, refused, run, run_up_unless, size,
+    stopped, up_packet, whole_table, Done, Keys, Record, ABOVE_15, ANY_ROOM, LENT, NOT_256_RECORDS,
 };
 
 // Calls of a host have this one between 5 and 6, and after 24 where there is no packet.
@@ -35,27 +35,10 @@ impl Guest<'_> {
         matches!(self.host, 1 | 2) && owner(self.owners, group) == self.host
     }
 
-    /// The refusal of the packet at the start of the words, if it is whole, of a type that has a
-    /// group, not of the wrong protocol, and not for a group of this host.
-    #[inline(always)]
-    fn refusal(self, words: &[u32], voice_type: u32) -> Option<Done> {
-        let word = *words.first()?;
-        let (message_type, size) = (word >> 28, size(word));
-        let has_group = matches!(message_type, 1 | 3 | 5 | 0xD) || message_type == voice_type;
-        let stays_out = has_group && size <= words.len() && !self.owns((word >> 24 & 15) as u8);
-        stays_out.then(|| refused(NOT_YOUR_GROUP, size))
-    }
-
-    #[inline(always)]
-    fn up(self, words: &[u32], table: &mut [Record; 256], out: &mut [u32]) -> Done {
-        self.refusal(words, 2)
-            .unwrap_or_else(|| up_packet::<LENT, ANY_ROOM>(words, table, out))
-    }
-
-    #[inline(always)]
-    fn down(self, words: &[u32], out: &mut [u32]) -> Done {
-        self.refusal(words, 4)
-            .unwrap_or_else(|| down_packet(words, out))
+    /// The groups of this host, which a run asks for once.
+    fn groups(self) -> Groups {
+        let own = (0..16).filter(|group| self.owns(*group));
+        Groups(own.fold(0, |groups, group| groups | 1 << group))
     }
 
     /// Whether a call for a channel fails by its group alone.
@@ -64,7 +47,29 @@ impl Guest<'_> {
     }
 }
 
+/// A set of groups: bit g is 1 if group g is in it.
+#[derive(Clone, Copy)]
+struct Groups(u16);
+
+impl Groups {
+    fn has(self, group: u8) -> bool {
+        self.0 >> group & 1 == 1
+    }
+}
+
+/// The refusal of the packet at the start of the words, if it is whole, of a type that has a group,
+/// not of the wrong protocol, and not for a group of the host.
+#[inline(always)]
+fn refusal(words: &[u32], voice_type: u32, owns: impl Fn(u8) -> bool) -> Option<Done> {
+    let word = *words.first()?;
+    let message_type = word >> 28;
+    let has_group = matches!(message_type, 1 | 3 | 5 | 0xD) || message_type == voice_type;
+    let stays_out = has_group && !owns((word >> 24 & 15) as u8) && size(word) <= words.len();
+    stays_out.then(|| refused(NOT_YOUR_GROUP, size(word)))
+}
+
 /// Treats the packet at the start of a host's words, going up.
+#[inline(always)]
 pub fn host_up(
     host: u8,
     owners: &[u8],
@@ -72,8 +77,10 @@ pub fn host_up(
     table: &mut [Record],
     out: &mut [u32],
 ) -> Done {
+    let guest = Guest { host, owners };
     match whole_table(table) {
-        Some(table) => Guest { host, owners }.up(words, table, out),
+        Some(table) => refusal(words, 2, |group| guest.owns(group))
+            .unwrap_or_else(|| up_packet::<LENT, ANY_ROOM>(words, table, out)),
         None => stopped(NOT_256_RECORDS),
     }
 }
@@ -86,22 +93,25 @@ pub fn host_run_up(
     table: &mut [Record],
     out: &mut [u32],
 ) -> Done {
-    let guest = Guest { host, owners };
-    match whole_table(table) {
-        Some(table) => run(words, out, |words, out| guest.up(words, table, out)),
-        None => stopped(NOT_256_RECORDS),
-    }
+    let groups = Guest { host, owners }.groups();
+    run_up_unless::<ANY_ROOM>(words, table, out, |words| {
+        refusal(words, 2, |group| groups.has(group))
+    })
 }
 
 /// Treats the packet at the start of a host's words, going down.
+#[inline(always)]
 pub fn host_down(host: u8, owners: &[u8], words: &[u32], out: &mut [u32]) -> Done {
-    Guest { host, owners }.down(words, out)
+    let guest = Guest { host, owners };
+    refusal(words, 4, |group| guest.owns(group)).unwrap_or_else(|| down_packet(words, out))
 }
 
 /// Treats packet after packet of a host, going down.
 pub fn host_run_down(host: u8, owners: &[u8], words: &[u32], out: &mut [u32]) -> Done {
-    let guest = Guest { host, owners };
-    run(words, out, |words, out| guest.down(words, out))
+    let groups = Guest { host, owners }.groups();
+    run(words, out, |words, out| {
+        refusal(words, 4, |group| groups.has(group)).unwrap_or_else(|| down_packet(words, out))
+    })
 }
 
 /// How many keys are down on a channel of a group that is the host's, and the lowest of them.

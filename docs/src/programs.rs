@@ -66,6 +66,15 @@ impl Program {
         feed(command.stdout(Stdio::piped()), &[], 0)
     }
 
+    /// Some of standard input, output and error are closed, as a shell closes them. Not every program
+    /// opens files.
+    #[allow(dead_code)]
+    pub fn run_with_closed<A: AsRef<OsStr>>(&self, closed: &str, arguments: &[A]) -> Said {
+        let start = format!("exec \"$@\" {closed}");
+        let mut command = self.command(&["sh", "-c", &start, "sh"], arguments);
+        feed(command.stdout(Stdio::piped()), &[], 0)
+    }
+
     fn command<A: AsRef<OsStr>>(&self, before: &[&str], arguments: &[A]) -> Command {
         let before = before.iter().map(|word| word.to_string());
         let mut words = before.chain(self.words.iter().cloned());

@@ -11,10 +11,6 @@ pub fn only(words: &[u32], group: u8, channel: u8, out: &mut [u32]) -> Done {
     }
     let mut done = stopped(SENT);
     while let Some(rest @ [first, ..]) = words.get(done.read..) {
-        if rest.len() < size(*first) {
-            done.answer = CUT;
-            break;
-        }
         if is_voice_of(*first, group, channel) {
             let Some(place) = out.get_mut(done.written) else {
                 done.answer = OUTPUT_SHORT;
@@ -22,15 +18,26 @@ pub fn only(words: &[u32], group: u8, channel: u8, out: &mut [u32]) -> Done {
             };
             *place = *first;
             done.written += 1;
+            done.read += 1;
+        } else if is_voice(*first) {
+            done.read += 1;
+        } else if size(*first) <= rest.len() {
+            done.read += size(*first);
+        } else {
+            done.answer = CUT;
+            break;
         }
-        done.read += size(*first);
     }
     done
 }
 
+fn is_voice(first: u32) -> bool {
+    first >> 28 == 2
+}
+
 fn is_voice_of(first: u32, group: u8, channel: u8) -> bool {
-    let [type_and_group, status_and_channel, ..] = first.to_be_bytes();
-    type_and_group == 0x20 | group && status_and_channel & 15 == channel
+    let own = u32::from_be_bytes([0x20 | group, channel, 0, 0]);
+    first & 0xFF0F_0000 == own
 }
 
 /// The standard output of the program for this standard input. There is none if the arguments are

@@ -2,9 +2,12 @@
 //! Read from the build specification, the requests that amend it, and M2-104-UM 1.1.1, sections 7.2
 //! to 7.7 and Appendix D.
 
+pub mod as_c;
 mod cable;
 mod chains;
+pub mod collector;
 mod desk;
+mod down_run;
 mod hosts;
 mod identity;
 mod pupil;
@@ -24,6 +27,7 @@ pub use chains::{
     TOO_LONG, TOO_MANY_PACKETS,
 };
 pub use desk::{desk, exact_decimal, Base, Desk, Display, Shown, BAD_RANGE, NOT_SOUNDING};
+pub use down_run::run_down;
 pub use hosts::{
     give_group, host_down, host_keys_down, host_mark_coarse, host_run_down, host_run_up, host_up,
     GIVEN, NOBODY, NOT_YOUR_GROUP,
@@ -316,9 +320,9 @@ fn first_bad_of_program(second: u32) -> u32 {
     }
 }
 
-/// Sends the words that a packet of `read` words becomes.
+/// Sends the words that a packet of `read` words becomes, or the bytes.
 #[inline(always)]
-fn send<const COUNT: usize>(read: usize, words: [u32; COUNT], out: &mut [u32]) -> Done {
+fn send<T: Copy, const COUNT: usize>(read: usize, words: [T; COUNT], out: &mut [T]) -> Done {
     match out.get_mut(..COUNT) {
         Some(place) => place.copy_from_slice(&words),
         None => return stopped(OUTPUT_SHORT),
@@ -466,6 +470,7 @@ fn whole_table(table: &mut [Record]) -> Option<&mut [Record; 256]> {
 }
 
 /// Treats the packet at the start of the words, going up.
+#[inline(always)]
 pub fn up(words: &[u32], table: &mut [Record], out: &mut [u32]) -> Done {
     match whole_table(table) {
         Some(table) => up_packet::<LENT, ANY_ROOM>(words, table, out),
@@ -475,20 +480,34 @@ pub fn up(words: &[u32], table: &mut [Record], out: &mut [u32]) -> Done {
 
 /// Treats packet after packet, going up.
 pub fn run_up(words: &[u32], table: &mut [Record], out: &mut [u32]) -> Done {
+    run_up_unless::<ANY_ROOM>(words, table, out, |_| None)
+}
+
+/// Treats packet after packet, going up in a room, but for packets that are refused before all else.
+#[inline(always)]
+fn run_up_unless<const ROOM: bool>(
+    words: &[u32],
+    table: &mut [Record],
+    out: &mut [u32],
+    refusal: impl Fn(&[u32]) -> Option<Done>,
+) -> Done {
     match whole_table(table) {
         Some(table) if words.len() >= LONG_RUN && table.iter().all(Record::sound) => {
             run(words, out, |words, out| {
-                up_packet::<LENT_AND_SOUND, ANY_ROOM>(words, table, out)
+                let call = || up_packet::<LENT_AND_SOUND, ROOM>(words, table, out);
+                refusal(words).unwrap_or_else(call)
             })
         }
         Some(table) => run(words, out, |words, out| {
-            up_packet::<LENT, ANY_ROOM>(words, table, out)
+            let call = || up_packet::<LENT, ROOM>(words, table, out);
+            refusal(words).unwrap_or_else(call)
         }),
         None => stopped(NOT_256_RECORDS),
     }
 }
 
 /// Treats the packet at the start of the words, going up in the beginners' room.
+#[inline(always)]
 pub fn beginners_up(words: &[u32], table: &mut [Record], out: &mut [u32]) -> Done {
     match whole_table(table) {
         Some(table) => up_packet::<LENT, BEGINNERS>(words, table, out),
@@ -498,12 +517,7 @@ pub fn beginners_up(words: &[u32], table: &mut [Record], out: &mut [u32]) -> Don
 
 /// Treats packet after packet, going up in the beginners' room.
 pub fn beginners_run_up(words: &[u32], table: &mut [Record], out: &mut [u32]) -> Done {
-    match whole_table(table) {
-        Some(table) => run(words, out, |words, out| {
-            up_packet::<LENT, BEGINNERS>(words, table, out)
-        }),
-        None => stopped(NOT_256_RECORDS),
-    }
+    run_up_unless::<BEGINNERS>(words, table, out, |_| None)
 }
 
 /// Whether the good packet that begins with this word may pass in the beginners' room: utility
@@ -579,13 +593,9 @@ pub fn mark_coarse(table: &mut [Record], group: u8, channel: u8, coarse: u8) -> 
 }
 
 /// Treats the packet at the start of the words, going down.
+#[inline(always)]
 pub fn down(words: &[u32], out: &mut [u32]) -> Done {
     down_packet(words, out)
-}
-
-/// Treats packet after packet, going down.
-pub fn run_down(words: &[u32], out: &mut [u32]) -> Done {
-    run(words, out, down_packet)
 }
 
 /// Upward the whole of a call becomes part of the loop, so that its report stays in registers.
@@ -765,8 +775,8 @@ fn up_program_change(word: u32, record: &mut Record, out: &mut [u32]) -> Done {
 #[inline(always)]
 fn down_packet(words: &[u32], out: &mut [u32]) -> Done {
     match *words {
-        [word, ..] if word >> 28 == 2 => refused(WRONG_PROTOCOL, 1),
         [first, second, ..] if first >> 28 == 4 => down_voice(first, second, out),
+        [word, ..] if word >> 28 == 2 => refused(WRONG_PROTOCOL, 1),
         _ => other_type::<ANY_ROOM>(words, out),
     }
 }
@@ -776,32 +786,55 @@ fn midi_1_word(word: u32, status: u32, data_1: u32, data_2: u32) -> u32 {
     0x2000_0000 | word & 0x0F0F_0000 | status << 20 | data_1 << 8 | data_2
 }
 
+/// Where the words go that a MIDI 2.0 voice becomes, and what is said of it.
+trait Outlet {
+    type Said;
+
+    fn send<const COUNT: usize>(&mut self, words: [u32; COUNT]) -> Self::Said;
+
+    /// What is said of a voice that sends nothing.
+    fn refuse(&mut self, first: u32, second: u32) -> Self::Said;
+}
+
+/// A single call for a voice.
+impl Outlet for [u32] {
+    type Said = Done;
+
+    #[inline(always)]
+    fn send<const COUNT: usize>(&mut self, words: [u32; COUNT]) -> Done {
+        send(2, words, self)
+    }
+
+    #[inline(always)]
+    fn refuse(&mut self, first: u32, second: u32) -> Done {
+        match check_voice_2(first, second) {
+            SENT => refused(NO_MIDI_1_FORM, 2),
+            BAD_DATA => bad_data(&[first, second]),
+            answer => refused(answer, 2),
+        }
+    }
+}
+
+/// Sends what a voice becomes, if it is good and can be said in MIDI 1.0.
 #[inline(always)]
-fn down_voice(first: u32, second: u32, out: &mut [u32]) -> Done {
-    let status = first >> 20 & 15;
-    if status == 7 {
-        return refused(BAD_STATUS, 2);
-    }
-    if !data_in_range(first, second) {
-        return bad_data(&[first, second]);
-    }
-    let index = first >> 8 & 127;
+fn down_voice<O: Outlet + ?Sized>(first: u32, second: u32, out: &mut O) -> O::Said {
+    let same = first & 0x0FFF_7F00 | 0x2000_0000;
     let (high_7, high_14) = (second >> 25, second >> 18);
-    match status {
-        0x2 if null(high_byte(first), low_byte(first)) => refused(NO_MIDI_1_FORM, 2),
-        0x2 => down_controller(first, high_14, [101, 100], out),
-        0x3 => down_controller(first, high_14, [99, 98], out),
-        0x8 | 0xA => send(2, [midi_1_word(first, status, index, high_7)], out),
-        0x9 => send(2, [midi_1_word(first, 0x9, index, high_7.max(1))], out),
-        0xB => down_control_change(first, index, high_7, out),
-        0xC => down_program_change(first, second, out),
-        0xD => send(2, [midi_1_word(first, 0xD, high_7, 0)], out),
-        0xE => send(
-            2,
-            [midi_1_word(first, 0xE, high_14 & 127, high_14 >> 7)],
-            out,
-        ),
-        _ => refused(NO_MIDI_1_FORM, 2),
+    match first >> 20 & 15 {
+        0x8 | 0xA if first & 0x8000 == 0 => out.send([same | high_7]),
+        0x9 if first & 0x8000 == 0 => out.send([same | high_7.max(1)]),
+        0xB if has_control_change(first) => out.send([same | high_7]),
+        0x2 if first & 0x8080 == 0 && !null(high_byte(first), low_byte(first)) => {
+            out.send(controller_words(first, high_14, [101, 100]))
+        }
+        0x3 if first & 0x8080 == 0 => out.send(controller_words(first, high_14, [99, 98])),
+        0xC if data_in_range(first, second) => match first & 1 {
+            0 => out.send([program_word(first, second)]),
+            _ => out.send(bank_and_program_words(first, second)),
+        },
+        0xD => out.send([midi_1_word(first, 0xD, high_7, 0)]),
+        0xE => out.send([midi_1_word(first, 0xE, high_14 & 127, high_14 >> 7)]),
+        _ => out.refuse(first, second),
     }
 }
 
@@ -815,32 +848,35 @@ fn data_in_range(first: u32, second: u32) -> bool {
     }
 }
 
-fn down_controller(first: u32, value: u32, address: [u32; 2], out: &mut [u32]) -> Done {
+/// Both halves of the address and both of the value.
+#[inline(always)]
+fn controller_words(first: u32, value: u32, address: [u32; 2]) -> [u32; 4] {
     let control = |index, value| midi_1_word(first, 0xB, index, value);
-    let words = [
+    [
         control(address[0], first >> 8 & 127),
         control(address[1], first & 127),
         control(6, value >> 7),
         control(38, value & 127),
-    ];
-    send(2, words, out)
+    ]
 }
 
-fn down_control_change(first: u32, index: u32, value: u32, out: &mut [u32]) -> Done {
-    match index {
-        0 | 6 | 32 | 38 | 96..=101 => refused(NO_MIDI_1_FORM, 2),
-        _ => send(2, [midi_1_word(first, 0xB, index, value)], out),
-    }
+/// Whether a controller is good and has no other meaning in MIDI 1.0 than its own.
+fn has_control_change(first: u32) -> bool {
+    !matches!(high_byte(first), 0 | 6 | 32 | 38 | 96..=101 | 128..)
 }
 
-fn down_program_change(first: u32, second: u32, out: &mut [u32]) -> Done {
-    let program = midi_1_word(first, 0xC, second >> 24, 0);
-    if first & 1 == 0 {
-        return send(2, [program], out);
-    }
-    let bank_high = midi_1_word(first, 0xB, 0, second >> 8 & 127);
-    let bank_low = midi_1_word(first, 0xB, 32, second & 127);
-    send(2, [bank_high, bank_low, program], out)
+fn program_word(first: u32, second: u32) -> u32 {
+    midi_1_word(first, 0xC, second >> 24, 0)
+}
+
+/// Both halves of the bank and then the program.
+#[inline(always)]
+fn bank_and_program_words(first: u32, second: u32) -> [u32; 3] {
+    [
+        midi_1_word(first, 0xB, 0, second >> 8 & 127),
+        midi_1_word(first, 0xB, 32, second & 127),
+        program_word(first, second),
+    ]
 }
 
 /// The table that programs start from: empty, but marked coarse where their arguments say so.

@@ -287,6 +287,31 @@ fn hold_full_disk(runs: &mut Runs) {
     );
 }
 
+/// With a standard descriptor closed, a file would take its place. Then nothing is written but a line
+/// that names the lowest closed one, where standard error or else standard output still takes one.
+fn hold_closed(runs: &mut Runs) {
+    let file = recording(&EVERY_SORT.concat());
+    runs.write_old(&file);
+    for (closed, stdout, stderr) in [
+        ("<&-", "", "rescue: standard input is closed\n"),
+        (">&-", "", "rescue: standard output is closed\n"),
+        ("2>&-", "rescue: standard error is closed\n", ""),
+        ("<&- >&-", "", "rescue: standard input is closed\n"),
+        ("<&- 2>&-", "rescue: standard input is closed\n", ""),
+        (">&- 2>&-", "", ""),
+        ("<&- >&- 2>&-", "", ""),
+    ] {
+        let said = runs.program.run_with_closed(closed, &["old", "new"]);
+        hold("standard output", &said.stdout, stdout.as_bytes());
+        hold("standard error", said.stderr.as_bytes(), stderr.as_bytes());
+        runs.take_new(&None);
+        let old = runs.bytes_of("old").expect("the old file is there");
+        hold("the old file", &old, &file);
+        runs.failures += 1;
+        runs.failures_by_status += usize::from(!said.well);
+    }
+}
+
 /// What is done to a whole recording: mostly nothing or a cut, and now and then a wrong header.
 fn damage(dice: &mut Dice, file: &mut Vec<u8>) {
     match dice.below(16) {
@@ -343,6 +368,7 @@ fn main() {
     hold_new_that_exists(&mut runs);
     hold_old_that_is_missing(&mut runs);
     hold_full_disk(&mut runs);
+    hold_closed(&mut runs);
     let mut dice = Dice::new(1090);
     for _ in 0..random {
         hold_random(&mut runs, &mut dice);

@@ -13,14 +13,21 @@
 //! chords of one to three notes with values from a wide range, some with a sweep in between, 15 are
 //! sweeps of a controller, the bend or the pressure by small steps, seven are timing clocks, and one
 //! is a new sound: a bank, a program and the range of the bend.
+//!
+//! What goes down is what runs up send of these words. In the mix one packet in three is another one:
+//! half of those are MIDI 2.0 voices of any status, the others are of any type, and one in twenty has
+//! a flipped bit.
 
 use crate::packets::{packet, Dice};
-use reading::{empty, size, SENT, TAKEN_IN};
+use reading::{down, empty, run_up, size, NO_MIDI_1_FORM, SENT, TAKEN_IN};
 
 /// A recipe: its name, and what makes so many words by it.
 pub type Recipe = (&'static str, fn(usize) -> Vec<u32>);
 
 pub const RECIPES: [Recipe; 2] = [("random mix", random_mix), ("played music", played_music)];
+
+/// What goes down.
+pub const RECIPES_DOWN: [Recipe; 2] = [("random mix", mix_down), ("played music", music_down)];
 
 /// Packets of all sorts, some of them refused.
 fn random_mix(length: usize) -> Vec<u32> {
@@ -105,6 +112,54 @@ fn new_sound(dice: &mut Dice, channel: u32, words: &mut Vec<u32>) {
     words.extend([0x20B0_6500, 0x20B0_6400, 0x20B0_0602, 0x20B0_2600].map(|word| word | channel));
 }
 
+/// What a run up over these words sends.
+fn sent_up(words: &[u32]) -> Vec<u32> {
+    let mut out = vec![0; 2 * words.len()];
+    let done = run_up(words, &mut [empty(); 256], &mut out);
+    out.truncate(done.written);
+    out
+}
+
+/// What is sent of the random mix, and among it packets of all sorts.
+fn mix_down(length: usize) -> Vec<u32> {
+    let mut dice = Dice::new(300);
+    let (sent, mut place) = (sent_up(&random_mix(length)), 0);
+    let mut words = vec![];
+    while words.len() + 4 <= length {
+        if dice.one_in(3) {
+            let any_type = dice.below(16) as u32;
+            let message_type = dice.pick(&[4, any_type]);
+            let mut packet = packet(&mut dice, message_type);
+            if dice.one_in(20) {
+                packet[0] ^= 1 << dice.below(24);
+            }
+            words.extend(&packet[..size(packet[0])]);
+        } else {
+            let end = place + size(sent[place]);
+            words.extend(&sent[place..end]);
+            place = end;
+        }
+    }
+    words.resize(length, 0);
+    words
+}
+
+/// What is sent of the played music.
+fn music_down(length: usize) -> Vec<u32> {
+    end_at(length, sent_up(&played_music(length)), 0x10F8_0000)
+}
+
+/// So many words of these, with packets of one word behind the last packet that ends by then.
+pub fn end_at(length: usize, mut words: Vec<u32>, filler: u32) -> Vec<u32> {
+    let mut end = 0;
+    while let Some(first) = words.get(end).filter(|first| end + size(**first) <= length) {
+        end += size(*first);
+    }
+    words.truncate(end);
+    words.resize(length, filler);
+    words
+}
+
 /// Fails unless the words have what the head of this file says of the random mix: packets of every
 /// type, good voices of every status and with every controller, data entries and banks that are
 /// sent, and every refusal that does not stop a run.
@@ -139,4 +194,23 @@ pub fn check_mix(words: &[u32]) {
         .all(|count| *count > 0));
     assert!([0, 1, 4, 5, 6, 7].iter().all(|answer| answers[*answer] > 0));
     assert!(banks > 0);
+}
+
+/// Fails unless the words have packets of every type, good MIDI 2.0 voices of every status that there
+/// is, and every refusal that does not stop a run.
+pub fn check_mix_down(words: &[u32]) {
+    let (mut types, mut statuses, mut answers) = ([0; 16], [0; 16], [0; 10]);
+    let mut place = 0;
+    while place < words.len() {
+        let (word, done) = (words[place], down(&words[place..], &mut [0; 4]));
+        place += done.read;
+        types[(word >> 28) as usize] += 1;
+        answers[done.answer as usize] += 1;
+        if let (4, SENT | NO_MIDI_1_FORM) = (word >> 28, done.answer) {
+            statuses[(word >> 20 & 15) as usize] += 1;
+        }
+    }
+    assert!(types.iter().all(|count| *count > 0));
+    assert!((0..16).all(|status| (statuses[status] > 0) == (status != 7)));
+    assert!([0, 2, 4, 5, 6, 7].iter().all(|answer| answers[*answer] > 0));
 }

@@ -1,2 +1,4 @@
 pub mod Ways
 pub mod PutLaws
+mod ReceiverLaws
+mod SoundWays

@@ -1,3 +1,4 @@
 pub mod State
 pub mod Hearing
+pub mod Receiver
 pub mod Put

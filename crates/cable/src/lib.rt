@@ -2,12 +2,17 @@
 // it. A byte completes a packet, is taken in, is dropped, or cuts off what is open.
 //
 // Every function is total, and says what it answers by a definition of specs/. Room in an output is not
-// asked for here.
+// asked for here. A `Cable` is what callers keep; the bytes are heard by a `Receiver`, which is the same
+// with the held bytes in their places of the packet.
 mod hearing;
+mod receiving;
 mod state;
 
 pub use hearing::hear;
 pub use hearing::needed;
+pub use hearing::receive;
+pub use receiving::cable_of;
+pub use receiving::receiver_of;
 pub use state::chosen;
 pub use state::idle;
 pub use state::is_sound;
@@ -34,6 +39,17 @@ pub struct Cable {
     pub held: [u8; 6],
 }
 
+// The same while bytes are heard: the first two held bytes stand in `high` and the other four in `low`,
+// as in the two words of the packet that they become.
+pub struct Receiver {
+    pub running: u8,
+    pub status: u8,
+    pub begun: u8,
+    pub count: u8,
+    pub high: u32,
+    pub low: u32,
+}
+
 // What a byte comes to, before room is asked for: up to two words.
 pub struct Heard {
     pub answer: u32,
@@ -42,4 +58,14 @@ pub struct Heard {
     pub first: u32,
     pub second: u32,
     pub after: Cable,
+}
+
+// The same of a receiver.
+pub struct Received {
+    pub answer: u32,
+    pub read: usize,
+    pub count: usize,
+    pub first: u32,
+    pub second: u32,
+    pub after: Receiver,
 }

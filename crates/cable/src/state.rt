@@ -5,9 +5,8 @@ use crate::SIX;
 use crate::hearing::needed;
 ghost use mathlib.Core.Path.{_≡_};
 ghost use mathlib.Core.Bool.{cond};
-ghost use mathlib.Core.List.{[], _∷_};
-ghost use Prim.Native.Nat.{_<_};
-ghost use Rattle.cable.specs.State.{holding, pushed, slot, sound, voiceByte};
+ghost use Prim.Native.Nat.{_≤_};
+ghost use Rattle.cable.specs.State.{slot, sound, soundHeld, voiceByte};
 ghost use Rattle.cable.specs.State;
 
 // One of two by a test.
@@ -24,54 +23,16 @@ fn is_voice(b: u8) -> bool
     (0x80 <= b) & (b < 0xF0)
 }
 
-// Nothing is held of what is open.
-pub(crate) fn fresh(running: u8, status: u8) -> Cable
-    ensures { λ r. ⌜ r ≡ holding running status 0 [] ⌝ }
-{
-    Cable {
-        running,
-        status,
-        begun: 0,
-        count: 0,
-        held: [0; 6],
-    }
-}
-
 // A cable on which nothing was heard yet.
 pub fn idle() -> Cable
     ensures { λ r. ⌜ r ≡ State.idle 0 ⌝ }
 {
-    fresh(0, 0)
-}
-
-// One byte is held.
-pub(crate) fn first_held(running: u8, status: u8, begun: u8, byte: u8) -> Cable
-    ensures { λ r. ⌜ r ≡ holding running status begun (byte ∷ []) ⌝ }
-{
     Cable {
-        running,
-        status,
-        begun,
-        count: 1,
-        held: [byte, 0, 0, 0, 0, 0],
-    }
-}
-
-// One more byte is held, in its place.
-pub(crate) fn with_byte(byte: u8, s: Cable) -> Cable
-    requires { ⌜ s .count < 6 ⌝ }
-    ensures { λ r. ⌜ r ≡ pushed byte s ⌝ }
-{
-    let n = s.count;
-    let at = n as usize;
-    let mut held = s.held;
-    held[at] = byte;
-    Cable {
-        running: s.running,
-        status: s.status,
-        begun: s.begun,
-        count: n + 1,
-        held,
+        running: 0,
+        status: 0,
+        begun: 0,
+        count: 0,
+        held: [0; 6],
     }
 }
 
@@ -82,21 +43,39 @@ fn is_slot(n: u8, k: u8, x: u8) -> bool
     x <= chosen(k < n, 127, 0)
 }
 
+// Whether the six places have data bytes where bytes are held, and 0 behind them.
+fn is_held(s: Cable) -> bool
+    ensures { λ r. ⌜ r ≡ soundHeld s ⌝ }
+{
+    let n = s.count;
+    let held = s.held;
+    let first = is_slot(n, 0, held[0]) & (is_slot(n, 1, held[1]) & is_slot(n, 2, held[2]));
+    let last = is_slot(n, 3, held[3]) & (is_slot(n, 4, held[4]) & is_slot(n, 5, held[5]));
+    first & last
+}
+
+// The same where at most one byte is held.
+fn is_held_short(s: Cable) -> bool
+    ensures { λ r. ⌜ (s .count ≤ 1 → r ≡ soundHeld s) ⌝ }
+{
+    let held = s.held;
+    let last = (held[3] == 0) & ((held[4] == 0) & (held[5] == 0));
+    is_slot(s.count, 0, held[0]) & ((held[1] == 0) & ((held[2] == 0) & last))
+}
+
 // Whether the numbers of a cable fit together.
 pub fn is_sound(s: Cable) -> bool
     ensures { λ r. ⌜ r ≡ sound s ⌝ }
 {
     let n = s.count;
-    let held = s.held;
+    if s.status == EXCLUSIVE {
+        let begins = (s.begun <= 1) & (s.begun <= n);
+        return ((s.running == 0) & ((n <= SIX) & begins)) & is_held(s);
+    }
     let runs = (s.running == 0) | is_voice(s.running);
     let none = (s.status == 0) & ((n == 0) & (s.begun == 0));
-    let begins = (s.begun <= 1) & (s.begun <= n);
-    let exclusive = (s.status == EXCLUSIVE) & ((s.running == 0) & ((n <= SIX) & begins));
     let known = (0x80 <= s.status) & (s.status < 0xF4);
     let serves = (s.running == 0) | (s.running == s.status);
     let waits = (n < needed(s.status)) & ((s.begun == 0) & serves);
-    let open = none | (exclusive | (known & waits));
-    let first = is_slot(n, 0, held[0]) & (is_slot(n, 1, held[1]) & is_slot(n, 2, held[2]));
-    let last = is_slot(n, 3, held[3]) & (is_slot(n, 4, held[4]) & is_slot(n, 5, held[5]));
-    runs & (open & (first & last))
+    runs & ((none | (known & waits)) & is_held_short(s))
 }

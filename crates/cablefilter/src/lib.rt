@@ -53,7 +53,7 @@ fn turn(
     let failed = ports::write_fails(STDOUT_FILENO, b"standard output", text, done.bytes);
     let left = wire::carry(bytes, done.read, have);
     let cable = done.cable;
-    let totals = done.totals;
+    let totals = done.totals.if_written(failed, totals);
     SocketState {
         cable,
         totals,

@@ -1,16 +1,17 @@
 -- Laws of the check: when a field and those behind it are good; the fields of an exclusive by its count; and where the
 -- first bad field of a list stands. Assumes nothing.
 use Prim.Native.Nat.{ℕ, zero, suc, _+_, _<_}
-use mathlib.Core.Path.{_≡_, refl, ap, _∙_}
-use mathlib.Core.Bool.{Bool, true, false, cond, _&&_, _||_}
+use mathlib.Core.Path.{_≡_, refl, sym, ap, _∙_}
+use mathlib.Core.Bool.{Bool, true, false, true≢false, cond, _&&_, _||_}
 use mathlib.Core.List.{List, [], _∷_, map}
 use native.Mathlib.Omega.{arith}
 use lib.ListN.{getD, take}
 use lib.Dec.{eqb, leb, ltb}
-use borrow.Author.Tests.{lt-leb, ne-eqb}
-use Rattle.ground.proofs.Bools.{and-true}
+use borrow.Author.Tests.{leb-true, lt-leb, ne-eqb}
+use Rattle.ground.proofs.Bools.{and-false, and-left, and-true}
 use Rattle.ground.proofs.Cases.{by-bool}
-use Rattle.fields.specs.Check.{Field, FirstBad, badPlace, behind, good, goodFields, seven}
+use Rattle.ump.specs.Word.{byte3, byte4, status}
+use Rattle.fields.specs.Check.{Field, FirstBad, badPlace, behind, good, goodFields, seven, voice2Fields}
 
 -- the place of the first that is bad in a row of fields, by their tests; there is none exactly where all are good
 placeIn : List Bool → ℕ
@@ -70,7 +71,8 @@ counted-good n a b c d e f =
 pub is-first : (fs : List Field) (k : ℕ) → badPlace fs ≡ suc k → FirstBad fs k
 unfolding badPlace
 is-first [] k e = absurd (omega (arith, e))
-is-first (f ∷ fs) k e = by-bool (good f) (λ g. later g k (badPlace fs) (λ j. is-first fs j) refl (rw g at e)) (λ g. here g (rw g at e))
+is-first (f ∷ fs) k e = by-bool (good f) (λ g. later g k (badPlace fs) (λ j. is-first fs j) refl (rw g at e))
+    (λ g. here g (rw g at e))
   where
     here : good f ≡ false → 1 ≡ suc k → FirstBad (f ∷ fs) k
     here g h = let z : k ≡ 0 = omega (arith, h) in rw z (g, λ i j. absurd (omega (arith, j)))
@@ -91,7 +93,8 @@ is-first (f ∷ fs) k e = by-bool (good f) (λ g. later g k (badPlace fs) (λ j.
 pub all-good : (fs : List Field) → badPlace fs ≡ 0 → (i : ℕ) → good (getD fs i (seven 0)) ≡ true
 unfolding badPlace
 all-good [] e i = refl
-all-good (f ∷ fs) e i = by-bool (good f) (λ g. go g i (λ p j. all-good fs p j) (rest (badPlace fs) refl (rw g at e))) (λ g. absurd (omega (arith, rw g at e)))
+all-good (f ∷ fs) e i = by-bool (good f) (λ g. go g i (λ p j. all-good fs p j) (rest (badPlace fs) refl (rw g at e)))
+    (λ g. absurd (omega (arith, rw g at e)))
   where
     rest : (m : ℕ) → badPlace fs ≡ m → behind m ≡ 0 → badPlace fs ≡ 0
     rest zero p h = p
@@ -101,3 +104,37 @@ all-good (f ∷ fs) e i = by-bool (good f) (λ g. go g i (λ p j. all-good fs p 
         → good (getD (f ∷ fs) i (seven 0)) ≡ true
     go g zero ih p = g
     go g (suc i) ih p = ih p i
+
+pub three-good : (a b c : Bool) → eqb (cond a (behind (cond b (behind (cond c (behind 0) 1)) 1)) 1) 0 ≡ (a && (b && c))
+unfolding placeIn allIn
+three-good a b c = all-in (a ∷ b ∷ c ∷ []) ∙ simp and-true
+
+-- a number of which a test holds is none of which it does not
+pub unlike : (test : ℕ → Bool) (s k : ℕ) → test s ≡ true → test k ≡ false → eqb s k ≡ false
+unlike test s k h n = ne-eqb s k (λ q. true≢false (sym h ∙ ap test q ∙ n))
+
+-- the statuses of MIDI 2.0 voice that are asked for first: notes, poly pressure and controllers, 8 to 11
+abbrev first-asked : ℕ → Bool
+first-asked s = leb 8 s && leb s 11
+
+pub keyed-status : (s : ℕ) → first-asked s ≡ true
+    → (eqb s 7 ≡ false) × ((leb 2 s && leb s 5) ≡ false) × (eqb s 12 ≡ false) × ((eqb s 13 || eqb s 14) ≡ false)
+keyed-status s h =
+    let low = leb-true 8 s (and-left (leb 8 s) (leb s 11) h) in (
+      unlike first-asked s 7 h refl,
+      rw (lt-leb s 5 (omega (arith, low)), and-false (leb 2 s)),
+      unlike first-asked s 12 h refl,
+      rw (unlike first-asked s 13 h refl, unlike first-asked s 14 h refl),
+    )
+
+-- the fields of those that have a bank and an index, and of those that have a note
+module _ (w v : ℕ) where
+  pub bank-fields : (leb 2 (status w) && leb (status w) 5) ≡ true
+      → goodFields (voice2Fields w v) ≡ (leb (byte3 w) 127 && leb (byte4 w) 127)
+  unfolding badPlace voice2Fields
+  bank-fields h = rw h (both-good (leb (byte3 w) 127) (leb (byte4 w) 127))
+
+  pub note-fields : (leb 2 (status w) && leb (status w) 5) ≡ false → eqb (status w) 12 ≡ false
+      → (eqb (status w) 13 || eqb (status w) 14) ≡ false → goodFields (voice2Fields w v) ≡ leb (byte3 w) 127
+  unfolding badPlace voice2Fields
+  note-fields a b c = rw (a, b, c) (one-good (leb (byte3 w) 127))

@@ -11,9 +11,11 @@ use ump::has_bank;
 use ump::message_type;
 use ump::status;
 ghost use mathlib.Core.Path.{_≡_};
-ghost use mathlib.Core.Bool.{cond};
+ghost use mathlib.Core.Bool.{cond, not, _&&_};
 ghost use mathlib.Core.List.{[], _∷_};
 ghost use Prim.Native.Nat.{_+_, _≤_, _<_, _^_};
+ghost use lib.Dec.{eqb};
+ghost use Rattle.ump.specs.Word;
 ghost use Rattle.fields.specs.Check.{badPlace, behind, checkedFields, exclusiveFields, goodFields, goodStatus};
 ghost use Rattle.fields.specs.Check.{goodUnchanged};
 ghost use Rattle.fields.specs.Check.{seven, systemFields, systemStatus, voice1Fields, voice1Status};
@@ -113,6 +115,30 @@ pub fn is_good_unchanged(w: u32, v: u32) -> bool
         15 => true,
         _ => false,
     }
+}
+
+// Whether a MIDI 2.0 voice message has a good status and no bad field. Notes, poly pressure and controllers, which most
+// of them are, have one number that is asked, and are asked for first.
+pub fn is_good_voice2(w: u32, v: u32) -> bool
+    ensures { λ r. ⌜ r ≡ (not (eqb (Word.status w) 7) && goodFields (voice2Fields w v)) ⌝ }
+{
+    let s = status(w);
+    if (8 <= s) & (s <= 11) {
+        return byte3(w) <= MOST;
+    }
+    if (2 <= s) & (s <= 5) {
+        return (byte3(w) <= MOST) & (byte4(w) <= MOST);
+    }
+    if s == 12 {
+        if has_bank(w) {
+            return (byte1(v) <= MOST) & ((byte3(v) <= MOST) & (byte4(v) <= MOST));
+        }
+        return byte1(v) <= MOST;
+    }
+    if (s == 13) | (s == 14) {
+        return true;
+    }
+    !(s == 7) & (byte3(w) <= MOST)
 }
 
 // The place of the first bad one of a field and those behind it, whose own is `rest`.

@@ -72,7 +72,7 @@ fn turn(
     let failed = write_fails(text, translated.bytes);
     let left = wire::carry(bytes, 4 * translated.read, have);
     let table = translated.table;
-    let totals = translated.totals;
+    let totals = translated.totals.if_written(failed, totals);
     FilterState {
         table,
         totals,

@@ -1,7 +1,7 @@
 -- A call and a run by what is asked first: the group, the state, whether a byte is left. Assumes nothing.
 use Prim.Native.Nat.{ℕ, _≤_, _<_}
 use mathlib.Core.Path.{_≡_, refl}
-use mathlib.Core.Bool.{true, false}
+use mathlib.Core.Bool.{Bool, true, false}
 use mathlib.Core.List.{List, [], _∷_}
 use native.Mathlib.Omega.{arith}
 use lib.Dec.{leb·zero}
@@ -11,7 +11,8 @@ use Rattle.stream.specs.Answers.{cutPacket, notSound, outOfRange}
 use Rattle.cable.specs.declared.Cable.{Cable}
 use Rattle.cable.specs.State.{pick, sound}
 use Rattle.cable.specs.Hearing.{byteIn, unread}
-use Rattle.inlet.specs.Inlet.{callIn, callsIn, fitIn, nextIn, nothingDone, oneIn, ranIn, runIn}
+use Rattle.inlet.specs.Inlet.{callIn, callsIn, fitIn, nextIn, nothingDone, oneIn, ranIn, runIn, took}
+use Rattle.inlet.specs.Taking.{Makes}
 
 -- what sends nothing has room
 pub quiet-fits : (room a : ℕ) (s : Cable) → fitIn room s (unread a [] s) ≡ unread a [] s
@@ -27,6 +28,12 @@ pub first-left : (s : Cable) (g : ℕ) (bs : List ℕ) → 0 < length bs → nex
 unfolding nextIn
 first-left s g [] h = absurd (omega arith)
 first-left s g (b ∷ bs) h = refl
+
+-- a call and a run that are refused report the same, and leave the output
+pub refuses : (once : Bool) (answer : ℕ) (s : Cable) (out : List ℕ)
+    → Makes once (unread answer [] s) (nothingDone answer s) (took (unread answer [] s)) out out
+refuses true answer s out = record { reports = refl; holds = refl }
+refuses false answer s out = record { reports = refl; holds = refl }
 
 module _ (g room : ℕ) (s : Cable) (bs : List ℕ) where
   pub one-range : 15 < g → oneIn g room s bs ≡ unread outOfRange [] s

@@ -1,7 +1,7 @@
 -- A call in its output, and a loop that makes call after call is the run. Assumes nothing.
 use Prim.Native.Nat.{ℕ, zero, suc, _+_, _-_, _*_, _≤_, _<_}
 use mathlib.Core.Path.{_≡_, refl, sym, ap, _∙_}
-use mathlib.Core.Bool.{Bool, true, false, cond}
+use mathlib.Core.Bool.{Bool, true, false, false≢true, cond}
 use mathlib.Core.List.{List, [], _∷_, _++_, append-assoc, append-nil}
 use native.Mathlib.Omega.{arith}
 use native.Mathlib.Nat.{add-zero, zero-add, add-assoc, sub-zero}
@@ -10,8 +10,9 @@ use lib.ListN.{drop, drop-of-length-le, getD, length, length-append, length-drop
 use lib.Seq.{drop-at, drop-cons, drop-drop, length-take-le, take-at}
 use borrow.Author.Tests.{eq-eqb, eqb-false, leb-true, ne-eqb}
 use Rattle.ground.specs.Store.{atStart, written}
-use Rattle.ground.proofs.StoreLaws.{written-none}
-use Rattle.stream.specs.Answers.{noRoom, sent}
+use Rattle.ground.proofs.Cases.{by-bool}
+use Rattle.ground.proofs.StoreLaws.{start-written, written-none}
+use Rattle.stream.specs.Answers.{cutPacket, noRoom, sent}
 use Rattle.stream.specs.Run.{Ran}
 use Rattle.cable.specs.declared.Cable.{Cable}
 use Rattle.cable.specs.declared.Heard.{Heard}
@@ -20,7 +21,9 @@ use Rattle.cable.specs.Put.{Put}
 use Rattle.cable.specs.Hearing.{Call, byteIn, told, unread}
 use Rattle.cable.proofs.Ways.{Few, Next, few, next-in}
 use Rattle.inlet.specs.declared.Imported.{Imported}
-use Rattle.inlet.specs.Inlet.{callsIn, fitIn, made, ranIn, reported, took}
+use Rattle.inlet.specs.Inlet.{callsIn, fitIn, made, nextIn, ranIn, reported, took}
+use Rattle.inlet.specs.Taking.{Makes}
+use Rattle.inlet.proofs.CallLaws.{first-left, none-left, quiet-fits}
 
 -- up to two words come back from their values
 words-back : (ws : List ℕ) → length ws ≤ 2 → take (length ws) (getD ws 0 0 ∷ getD ws 1 0 ∷ []) ≡ ws
@@ -119,8 +122,8 @@ module _ (g : ℕ) (s₀ : Cable) (a out₀ : List ℕ) where
     pub rest : drop n out ≡ drop n out₀
     pub runs : whole ≡ onTop i (take n out) (ranIn (length out - n) s (callsIn g s (drop i a)))
 
-  pub start : Runs s₀ out₀ 0 0
-  start =
+  begin : Runs s₀ out₀ 0 0
+  begin =
       record {
         read = omega arith;
         wrote = omega arith;
@@ -130,7 +133,7 @@ module _ (g : ℕ) (s₀ : Cable) (a out₀ : List ℕ) where
       }
 
   -- what is reported of the run, and what the output holds
-  abbrev pub Told : Imported → List ℕ → Type 0
+  abbrev Told : Imported → List ℕ → Type 0
   Told r out = (r ≡ reported whole) × (out ≡ atStart (whole .sends) out₀)
 
   over : (s : Cable) (out : List ℕ) (i n A : ℕ)
@@ -140,10 +143,10 @@ module _ (g : ℕ) (s₀ : Cable) (a out₀ : List ℕ) where
       let l = length-take-le n out (r .wrote) in
       rw e (rw l, sym (take-append-drop n out) ∙ rw (l, r .rest))
 
-  pub finish : (s : Cable) (out : List ℕ) (i n : ℕ) → Runs s out i n → length a ≤ i
+  end : (s : Cable) (out : List ℕ) (i n : ℕ) → Runs s out i n → length a ≤ i
       → Told (record { answer = sent; read = i; written = n; after = s }) out
   unfolding callsIn ranIn
-  finish s out i n r h =
+  end s out i n r h =
       over s out i n sent (r .runs ∙ rw (drop-of-length-le a h, add-zero i, append-nil (take n out))) r
 
   module _ (s : Cable) (out : List ℕ) (i n : ℕ) (inv : Runs s out i n) (h : i < length a) where
@@ -196,24 +199,118 @@ module _ (g : ℕ) (s₀ : Cable) (a out₀ : List ℕ) where
               );
         }
 
-    -- after one more call: the run is over, or the invariant holds again and less is left to do
-    pub turn : (r : Imported) (after : List ℕ) → r ≡ took (fitIn free s c) → after ≡ written n (fitIn free s c .sends) out
-        → (r .answer ≡ noRoom → Told (record { answer = noRoom; read = i; written = n; after = s }) after)
-        × ((r .answer ≡ noRoom → ⊥)
-        → Runs (r .after) after (i + r .read) (n + r .written)
-        × (2 * (length a - (i + r .read)) + opened (r .after) < 2 * (length a - i) + opened s))
+    -- what the next call comes to where its words have no room
+    tight : leb (length (c .sends)) free ≡ false → fitIn free s c ≡ unread noRoom [] s
     unfolding fitIn pick
-    turn r after e f = go (leb (length (c .sends)) free) refl e f
-      where
-        go : (t : Bool) → leb (length (c .sends)) free ≡ t → r ≡ took (pick t c (unread noRoom [] s))
-            → after ≡ written n (pick t c (unread noRoom [] s) .sends) out
-            → (r .answer ≡ noRoom → Told (record { answer = noRoom; read = i; written = n; after = s }) after)
-            × ((r .answer ≡ noRoom → ⊥)
-            → Runs (r .after) after (i + r .read) (n + r .written)
-            × (2 * (length a - (i + r .read)) + opened (r .after) < 2 * (length a - i) + opened s))
-        go true t e f = (
-          λ z. absurd (eqb-false (c .answer) noRoom (few s g (getD a i 0) .fits) (ap (λ (x : Imported). x .answer) (sym e) ∙ z)),
-          λ _. rw e (goes t after f, less g a s i h .0),
-        )
-        go false t e f =
-            (λ _. rw (f ∙ written-none n out) (stop t), λ z. absurd (z (ap (λ (x : Imported). x .answer) e)))
+    tight t = rw t
+
+    -- 9 is answered only where they have none
+    no-room : fitIn free s c .answer ≡ noRoom → leb (length (c .sends)) free ≡ false
+    unfolding fitIn pick
+    no-room e =
+        by-bool (leb (length (c .sends)) free)
+        (λ t. absurd (eqb-false (c .answer) noRoom (few s g (getD a i 0) .fits) (rw t at e)))
+        (λ t. t)
+
+    some-room : (fitIn free s c .answer ≡ noRoom → ⊥) → leb (length (c .sends)) free ≡ true
+    unfolding fitIn pick
+    some-room z = by-bool (leb (length (c .sends)) free) (λ t. t) (λ t. absurd (z (rw t)))
+
+    roomy : leb (length (c .sends)) free ≡ true → fitIn free s c ≡ c
+    unfolding fitIn pick
+    roomy t = rw t
+
+    abbrev left : Imported → ℕ
+    left r = 2 * (length a - (i + r .read)) + opened (r .after)
+
+    -- after one more call that had room the invariant holds again, and less is left to do
+    pub turn : (r : Imported) (after : List ℕ) → r ≡ took (fitIn free s c)
+        → after ≡ written n (fitIn free s c .sends) out
+        → (r .answer ≡ noRoom → ⊥)
+        → Runs (r .after) after (i + r .read) (n + r .written) × (left r < 2 * (length a - i) + opened s)
+    turn r after e f z =
+        let t = some-room (λ x. z (rw e x)) in
+        rw (e, roomy t) (goes t after (rw (roomy t) at f), less g a s i h .0)
+
+  -- one call alone, and what a loop does that makes one call or a run
+  abbrev single : Call
+  single = fitIn (length out₀) s₀ (nextIn s₀ g a)
+
+  abbrev pub Does : Bool → Imported → List ℕ → Type 0
+  Does once r after = Makes once single whole r out₀ after
+
+  pub record AtFirst (s : Cable) (out : List ℕ) (i n : ℕ) : Type 0 where
+    pub state : s ≡ s₀
+    pub output : out ≡ out₀
+    pub read : i ≡ 0
+    pub wrote : n ≡ 0
+
+  -- its invariant: that of the run, and where it makes one call, none was made yet
+  pub record Goes (once : Bool) (s : Cable) (out : List ℕ) (i n : ℕ) : Type 0 where
+    pub runs : Runs s out i n
+    pub first : once ≡ true → AtFirst s out i n
+
+  pub start : (once : Bool) → Goes once s₀ out₀ 0 0
+  start once =
+      record { runs = begin; first = λ _. record { state = refl; output = refl; read = refl; wrote = refl } }
+
+  pub finish : (once : Bool) (s : Cable) (out : List ℕ) (i n : ℕ) → Goes once s out i n → length a ≤ i
+      → Does once (record { answer = cond once cutPacket sent; read = i; written = n; after = s }) out
+  finish true s out i n x h =
+      let b = x .first refl in
+      let none : length a ≡ 0 = omega (arith, b .read) in
+      let e : single ≡ unread cutPacket [] s₀ =
+      rw (none-left s₀ g a none) (quiet-fits (length out₀) cutPacket s₀) in
+      record { reports = rw (e, b .state, b .read, b .wrote); holds = rw e (b .output) }
+  finish false s out i n x h =
+      let t = end s out i n (x .runs) h in
+      record { reports = t .0; holds = t .1 }
+
+  module _
+      (once : Bool) (s : Cable) (out : List ℕ) (i n : ℕ) (x : Goes once s out i n) (h : i < length a)
+      (r : Imported) (after : List ℕ)
+      (e : r ≡ took (fitIn (length out - n) s (byteIn s g (getD a i 0))))
+      (f : after ≡ written n (fitIn (length out - n) s (byteIn s g (getD a i 0)) .sends) out)
+    where
+      abbrev fit : Call
+      fit = fitIn (length out - n) s (byteIn s g (getD a i 0))
+
+      the-first : AtFirst s out i n → fit ≡ single
+      the-first b =
+          let some : 0 < length a = omega arith in
+          rw (b .state, b .output, b .read, b .wrote, sub-zero (length out₀), first-left s₀ g a some)
+
+      -- the next call has no room
+      pub stops : r .answer ≡ noRoom → Does once (record { answer = noRoom; read = i; written = n; after = s }) after
+      stops w =
+          let t = no-room s out i n (x .runs) h (rw e at w) in
+          let u = tight s out i n (x .runs) h t in
+          let same : after ≡ out = f ∙ rw u (written-none n out) in
+          by-bool once
+          (λ o.
+          let b = x .first o in
+          let v : single ≡ unread noRoom [] s = sym (the-first b) ∙ u in
+          rw o (record { reports = rw (v, b .read, b .wrote); holds = rw v (same ∙ b .output) }))
+          (λ o.
+          let p = stop s out i n (x .runs) h t in
+          rw o (record { reports = p .0; holds = same ∙ p .1 }))
+
+      -- it has, and the loop goes on
+      pub goes-on : once ≡ false → (r .answer ≡ noRoom → ⊥)
+          → Goes once (r .after) after (i + r .read) (n + r .written)
+          × (2 * (length a - (i + r .read)) + opened (r .after) < 2 * (length a - i) + opened s)
+      goes-on o z =
+          let p = turn s out i n (x .runs) h r after e f z in
+          (record { runs = p .0; first = λ y. absurd (false≢true (sym o ∙ y)) }, p .1)
+
+      -- it was the only one
+      pub one-made : once ≡ true
+          → Does once (record { answer = r .answer; read = i + r .read; written = n + r .written; after = r .after })
+          after
+      one-made o =
+          let b = x .first o in
+          let v = the-first b in
+          let stored : after ≡ atStart (single .sends) out₀ =
+          f ∙ rw (v, b .wrote, b .output) (start-written (single .sends) out₀) in
+          rw (o, b .read, b .wrote, zero-add (r .read), zero-add (r .written))
+          (record { reports = e ∙ ap took v; holds = stored })

@@ -4,21 +4,28 @@
 // No public function has a `requires`. Each says by a definition of specs/ what it answers, how much it
 // reads and writes, which state it leaves and what the output holds after, on every input.
 use cable::Cable;
-use cable::hear;
+use cable::Receiver;
+use cable::cable_of;
 use cable::is_sound;
+use cable::receive;
+use cable::receiver_of;
 use stream::CUT;
 use stream::NO_ROOM;
 use stream::NOT_SOUND;
 use stream::OUT_OF_RANGE;
 use stream::SENT;
 ghost use mathlib.Core.Path.{_≡_};
+ghost use mathlib.Core.Bool.{cond};
 ghost use mathlib.Core.List.{[], _∷_};
 ghost use Prim.Native.Nat.{_-_, _≤_};
 ghost use lib.ListN.{length, take};
+ghost use Rattle.stream.specs.Answers.{cutPacket, sent};
 ghost use Rattle.ground.specs.Store.{atStart, written};
 ghost use Rattle.cable.specs.Put.{Put};
 ghost use Rattle.cable.specs.Hearing.{byteIn, unread};
+ghost use Rattle.cable.specs.Receiver.{cableOf};
 ghost use Rattle.inlet.specs.Inlet.{callsIn, fitIn, nextIn, oneIn, ranIn, reported, runIn, took};
+ghost use Rattle.inlet.specs.Taking.{Makes, importedOf};
 
 // What an import answers, the bytes that it read, the words that it wrote, and the cable after it.
 #[repr(C)]
@@ -27,6 +34,14 @@ pub struct Imported {
     pub read: usize,
     pub written: usize,
     pub after: Cable,
+}
+
+// The same of one call of a run.
+struct Taken {
+    answer: u32,
+    read: usize,
+    written: usize,
+    after: Receiver,
 }
 
 // Nothing is read or written, and the cable stays.
@@ -41,20 +56,28 @@ fn refused(answer: u32, cable: Cable) -> Imported
     }
 }
 
+// What was read and written, with the cable that is left.
+fn report(answer: u32, read: usize, written: usize, state: Receiver) -> Imported
+    ensures { λ r. ⌜ r ≡ record { answer = answer; read = read; written = written; after = cableOf state } ⌝ }
+{
+    Imported {
+        answer,
+        read,
+        written,
+        after: cable_of(state),
+    }
+}
+
 // Stores up to two words from a place on and answers true, or, where they do not fit, stores nothing
 // and answers false.
 fn put(out: &mut [u32], to: usize, count: usize, w: u32, v: u32) -> bool
-    requires { ⌜ count ≤ 2 ⌝ }
+    requires { ⌜ (count ≤ 2) × (to ≤ length (now out)) ⌝ }
     ensures { λ r. ⌜ Put (take count (w ∷ v ∷ [])) to (now (out .entry)) r (now (out .exit)) ⌝ }
 {
     if count == 0 {
         return true;
     }
-    if out.len() <= to {
-        return false;
-    }
-    let room = out.len() - to;
-    if room < count {
+    if out.len() - to < count {
         return false;
     }
     out[to] = w;
@@ -64,39 +87,81 @@ fn put(out: &mut [u32], to: usize, count: usize, w: u32, v: u32) -> bool
     true
 }
 
-// One byte of a sound cable, its packet into the output from a place on.
-fn take_byte(state: Cable, group: u8, byte: u8, out: &mut [u32], to: usize) -> Imported
-    ensures report { λ r. ⌜ r
-        ≡ took (fitIn (length (now (out .entry)) - to) state (byteIn state group byte)) ⌝ }
+// One byte of a cable, its packet into the output from a place on.
+fn take_byte(state: Receiver, group: u8, byte: u8, out: &mut [u32], to: usize) -> Taken
+    requires { ⌜ to ≤ length (now out) ⌝ }
+    ensures report { λ r. ⌜ importedOf r
+        ≡ took (fitIn (length (now (out .entry)) - to) (cableOf state) (byteIn (cableOf state) group byte)) ⌝ }
     ensures output { λ _. ⌜ now (out .exit) ≡ written to
-        (fitIn (length (now (out .entry)) - to) state (byteIn state group byte) .sends) (now (out .entry)) ⌝ }
+        (fitIn (length (now (out .entry)) - to) (cableOf state) (byteIn (cableOf state) group byte) .sends)
+        (now (out .entry)) ⌝ }
 {
-    let heard = hear(state, group, byte);
+    let heard = receive(state, group, byte);
     let after = heard.after;
     if put(out, to, heard.count, heard.first, heard.second) {
-        Imported {
+        Taken {
             answer: heard.answer,
             read: heard.read,
             written: heard.count,
             after,
         }
     } else {
-        refused(NO_ROOM, state)
+        Taken {
+            answer: NO_ROOM,
+            read: 0,
+            written: 0,
+            after: state,
+        }
     }
 }
 
-// The first of the bytes, if there is one.
-fn take_first(cable: Cable, group: u8, bytes: &[u8], out: &mut [u32]) -> Imported
-    ensures report { λ r. ⌜ r
-        ≡ took (fitIn (length (now (out .entry))) cable (nextIn cable group (now (bytes .entry)))) ⌝ }
-    ensures output { λ _. ⌜ now (out .exit) ≡ atStart
-        (fitIn (length (now (out .entry))) cable (nextIn cable group (now (bytes .entry))) .sends)
-        (now (out .entry)) ⌝ }
+// The answer where no byte is left: 3 of one call, and of a run that it came to its end.
+fn ended(once: bool) -> u32
+    ensures { λ r. ⌜ r ≡ cond once cutPacket sent ⌝ }
 {
-    if bytes.len() == 0 {
-        refused(CUT, cable)
+    if once { CUT } else { SENT }
+}
+
+// Call after call, until no byte is left or a packet has no room; or one call only, at the first byte.
+fn take_all(first: Receiver, group: u8, bytes: &[u8], out: &mut [u32], once: bool) -> Imported
+    ensures { λ r. ⌜ Makes once
+        (fitIn (length (now (out .entry))) (cableOf first) (nextIn (cableOf first) group (now (bytes .entry))))
+        (ranIn (length (now (out .entry))) (cableOf first) (callsIn group (cableOf first) (now (bytes .entry))))
+        r (now (out .entry)) (now (out .exit)) ⌝ }
+{
+    let mut state = first;
+    let mut read: usize = 0;
+    let mut written: usize = 0;
+    while read < bytes.len() {
+        let one = take_byte(state, group, bytes[read], out, written);
+        if one.answer == NO_ROOM {
+            return report(NO_ROOM, read, written, state);
+        }
+        read += one.read;
+        written += one.written;
+        let after = one.after;
+        state = after;
+        if once {
+            return report(one.answer, read, written, state);
+        }
+    }
+    report(ended(once), read, written, state)
+}
+
+// A call or a run: the group and the cable are asked for first.
+fn take_from(cable: Cable, group: u8, bytes: &[u8], out: &mut [u32], once: bool) -> Imported
+    ensures { λ r. ⌜ Makes once
+        (oneIn group (length (now (out .entry))) cable (now (bytes .entry)))
+        (runIn group (length (now (out .entry))) cable (now (bytes .entry)))
+        r (now (out .entry)) (now (out .exit)) ⌝ }
+{
+    if 15 < group {
+        return refused(OUT_OF_RANGE, cable);
+    }
+    if is_sound(cable) {
+        take_all(receiver_of(cable), group, bytes, out, once)
     } else {
-        take_byte(cable, group, bytes[0], out, 0)
+        refused(NOT_SOUND, cable)
     }
 }
 
@@ -107,47 +172,7 @@ pub fn import(cable: Cable, group: u8, bytes: &[u8], out: &mut [u32]) -> Importe
     ensures output { λ _. ⌜ now (out .exit) ≡ atStart
         (oneIn group (length (now (out .entry))) cable (now (bytes .entry)) .sends) (now (out .entry)) ⌝ }
 {
-    if 15 < group {
-        return refused(OUT_OF_RANGE, cable);
-    }
-    if is_sound(cable) {
-        take_first(cable, group, bytes, out)
-    } else {
-        refused(NOT_SOUND, cable)
-    }
-}
-
-// Call after call, until no byte is left or a packet has no room.
-fn take_all(cable: Cable, group: u8, bytes: &[u8], out: &mut [u32]) -> Imported
-    ensures report { λ r. ⌜ r ≡ reported (ranIn (length (now (out .entry))) cable
-        (callsIn group cable (now (bytes .entry)))) ⌝ }
-    ensures output { λ _. ⌜ now (out .exit) ≡ atStart (ranIn (length (now (out .entry))) cable
-        (callsIn group cable (now (bytes .entry))) .sends) (now (out .entry)) ⌝ }
-{
-    let mut state = cable;
-    let mut read: usize = 0;
-    let mut written: usize = 0;
-    while read < bytes.len() {
-        let one = take_byte(state, group, bytes[read], out, written);
-        if one.answer == NO_ROOM {
-            return Imported {
-                answer: NO_ROOM,
-                read,
-                written,
-                after: state,
-            };
-        }
-        read += one.read;
-        written += one.written;
-        let after = one.after;
-        state = after;
-    }
-    Imported {
-        answer: SENT,
-        read,
-        written,
-        after: state,
-    }
+    take_from(cable, group, bytes, out, true)
 }
 
 // A run: every byte. A message that is open at the end stays in the cable.
@@ -157,12 +182,5 @@ pub fn run_import(cable: Cable, group: u8, bytes: &[u8], out: &mut [u32]) -> Imp
     ensures output { λ _. ⌜ now (out .exit) ≡ atStart
         (runIn group (length (now (out .entry))) cable (now (bytes .entry)) .sends) (now (out .entry)) ⌝ }
 {
-    if 15 < group {
-        return refused(OUT_OF_RANGE, cable);
-    }
-    if is_sound(cable) {
-        take_all(cable, group, bytes, out)
-    } else {
-        refused(NOT_SOUND, cable)
-    }
+    take_from(cable, group, bytes, out, false)
 }

@@ -15,6 +15,7 @@ ghost use Rattle.ump.specs.Word.{bits, channelOf, groupOf, voice1};
 ghost use Rattle.ump.specs.Word;
 ghost use Rattle.message.specs.Message.{bankOf, controlChange1, pitchBend1, programChange2, read2, voiceWord, write1};
 ghost use Rattle.lower.specs.Lower.{entered, lower, sounding};
+ghost use Rattle.lower.specs.Keyed.{keyed, keyedValue, keyedWords};
 ghost use Rattle.lower.specs.Values.{packed, wordsIn};
 
 // Up to four words, as values.
@@ -117,31 +118,59 @@ fn bend_down(w: u32, v: u32) -> UpToFourWords
     one_word(14, (value % 0x80) as u8, (value / 0x80) as u8, w)
 }
 
+// The value of a note, of poly pressure or of a controller, by the message's status.
+fn keyed_value(status: u32, v: u32) -> u8
+    ensures { λ r. ⌜ r ≡ keyedValue status v ⌝ }
+{
+    if status == 8 {
+        return velocity_down(v);
+    }
+    if status == 9 {
+        sounding_velocity(velocity_down(v))
+    } else {
+        value_down(v)
+    }
+}
+
+// Whether a MIDI 2.0 voice message is a note, poly pressure or a controller, which most are.
+pub fn is_keyed(w: u32) -> bool
+    ensures { λ r. ⌜ r ≡ keyed (Word.status w) ⌝ }
+{
+    let s = status(w);
+    (8 <= s) & (s <= 11)
+}
+
+// Such a message keeps its status and its number, and has one word, or none if it is a controller that is only a part
+// of a message.
+pub fn keyed_words(w: u32, v: u32) -> UpToFourWords
+    ensures { λ r. ⌜ r ≡ packed (keyedWords w v) ⌝ }
+{
+    let s = status(w);
+    let n = byte3(w);
+    if (s == 11) & message::is_part(n) {
+        no_words()
+    } else {
+        one_word(s, n, keyed_value(s, v), w)
+    }
+}
+
 // The messages of a checked MIDI 2.0 voice packet, as words in its group and channel.
 pub fn lowered(w: u32, v: u32) -> UpToFourWords
     ensures { λ r. ⌜ r ≡ wordsIn w (lower (read2 w v)) ⌝ }
 {
+    if is_keyed(w) {
+        return keyed_words(w, v);
+    }
     let s = status(w);
-    let n = byte3(w);
     match s {
         2 => {
-            if (n == 127) & (byte4(w) == 127) {
+            if (byte3(w) == 127) & (byte4(w) == 127) {
                 no_words()
             } else {
                 entered_by(101, 100, w, v)
             }
         }
         3 => entered_by(99, 98, w, v),
-        8 => one_word(8, n, velocity_down(v), w),
-        9 => one_word(9, n, sounding_velocity(velocity_down(v)), w),
-        10 => one_word(10, n, value_down(v), w),
-        11 => {
-            if message::is_part(n) {
-                no_words()
-            } else {
-                one_word(11, n, value_down(v), w)
-            }
-        }
         12 => program_down(w, v),
         13 => one_word(13, value_down(v), 0, w),
         14 => bend_down(w, v),

@@ -1,125 +1,98 @@
--- A packet on its way out: the screening by the common one and a test of type and group; what every refusal reports;
--- bytes that fit and bytes that do not; and that a step looks at its own packet alone. Assumes nothing.
-use Prim.Native.Nat.{ℕ, _+_, _-_}
-use mathlib.Core.Path.{_≡_, refl, sym, _∙_}
-use mathlib.Core.Bool.{Bool, true, false, cond, not, _||_}
+-- A packet on its way out: the screening by type and group and then by the check; what a packet of the cable sends, and
+-- one that is not for it; and that a step looks at its own packet alone. Assumes nothing.
+use Prim.Native.Nat.{ℕ}
+use mathlib.Core.Path.{_≡_, refl}
+use mathlib.Core.Bool.{Bool, true, false, cond, not, _&&_}
 use mathlib.Core.List.{List, [], _∷_}
 use native.Mathlib.Omega.{arith}
-use native.Mathlib.Nat.{add-zero}
 use lib.Dec.{eqb, leb}
 use lib.ListN.{length, take}
-use borrow.Author.Tests.{eqb-true, ne-eqb}
-use Rattle.ground.specs.Store.{written}
-use Rattle.ground.proofs.Cases.{by-bool, choose, not-both}
-use Rattle.ground.proofs.StoreLaws.{written-none}
-use Rattle.ump.specs.Word.{messageType}
+use borrow.Author.Tests.{eq-eqb, leb-true, lt-leb, ne-eqb}
+use Rattle.ground.proofs.Bools.{and-left, and-right}
+use Rattle.ground.proofs.Cases.{by-bool}
+use Rattle.ump.specs.Word.{groupOf, messageType}
 use Rattle.ump.specs.Packet.{first, second, size}
-use Rattle.ump.proofs.PacketLaws.{at-none, packet-near}
+use Rattle.ump.proofs.PacketLaws.{packet-near}
 use Rattle.fields.specs.Check.{badPlaceOf, checkedFields, goodStatus}
-use Rattle.stream.specs.declared.Done.{Done}
-use Rattle.stream.specs.Answers.{badData, badStatus, cutPacket, noRoom, notForCable, reservedType, sent, stopsRun, takenIn}
-use Rattle.stream.specs.Call.{fit, refused, sentOf}
-use Rattle.stream.specs.Report.{counting, further, placeTold, placing}
-use Rattle.stream.proofs.CallLaws.{refusal, refused-fits}
+use Rattle.stream.specs.Answers.{badData, badStatus, cutPacket, notForCable, reservedType, sent, takenIn}
+use Rattle.stream.specs.Call.{refused, stopped, went}
 use Rattle.stream.proofs.RunLoop.{Inside, packet-inside}
 use Rattle.stream.proofs.Stateless.{So}
 use Rattle.screen.specs.declared.Screened.{Screened}
-use Rattle.screen.specs.Screen.{admitted, answering, checking, goesOn, neitherType, outside, reserved, screen, screenBy}
-use Rattle.screen.specs.Screen.{screened}
-use Rattle.cable.specs.Put.{Put}
-use Rattle.outlet.specs.Outlet.{bytesOf, givenAt, giving, ours, packetAt, packetOut, screenOut, stepOut}
+use Rattle.screen.specs.Screen.{answering, checking, goesOn, reserved, screened}
+use Rattle.cable.specs.State.{pick}
+use Rattle.outlet.specs.Outlet.{bytesOf, giving, ours, packetOut, screenOut, stepOut}
+use Rattle.outlet.specs.Sending.{clean, sends}
+
+-- the check of a packet of ours, with the answer where nothing is bad
+abbrev pub checked : ℕ → ℕ → ℕ → Screened
+checked w v good = checking (goodStatus w) (checkedFields w v) good
+
+-- the answer of one that is not
+abbrev pub otherAnswer : ℕ → ℕ
+otherAnswer w = cond (reserved (messageType w)) reservedType notForCable
+
+-- the same by its two tests, and the place of the first bad field
+abbrev pub choice : Bool → Bool → ℕ → ℕ → Screened
+choice status fields place good =
+    cond (not status) (answering badStatus)
+    (cond fields (answering good) (record { answer = badData; place = place }))
+
+-- what a packet of ours answers
+abbrev pub verdict : ℕ → ℕ → ℕ
+verdict w v = checked w v (cond (eqb (length (bytesOf w v)) 0) takenIn sent) .answer
+
+-- a type of ours is not reserved
+not-reserved : (g w : ℕ) → ours g w ≡ true → reserved (messageType w) ≡ false
+not-reserved g w o =
+    let t = and-left (leb 1 (messageType w) && leb (messageType w) 3) (eqb (groupOf w .0) g) o in
+    let most = leb-true (messageType w) 3 (and-right (leb 1 (messageType w)) (leb (messageType w) 3) t) in
+    rw (lt-leb 6 (messageType w) (omega (arith, most)), ne-eqb (messageType w) 14 (λ e. omega (arith, e, most)))
 
 module _ (g : ℕ) (p : List ℕ) where
-  abbrev checked : Screened
-  checked = checking (goodStatus (first p)) (checkedFields (first p) (second p)) goesOn
-
-  -- what the common screening finds where no type is wrong
-  found : screen neitherType p
-      ≡ cond (eqb (length p) 0) (answering cutPacket)
-      (cond (reserved (messageType (first p))) (answering reservedType) checked)
-  unfolding screenBy outside admitted
-  found = rw (ne-eqb (messageType (first p)) neitherType (λ e. omega arith))
-
-  checked-high : (eqb (checked .answer) cutPacket || eqb (checked .answer) reservedType) ≡ false
-  checked-high =
-      let High : Screened → Type 0 = λ s. (eqb (s .answer) cutPacket || eqb (s .answer) reservedType) ≡ false in
-      choose High (not (goodStatus (first p))) (λ _. refl)
-      (λ _. choose High (eqb (badPlaceOf p) 0) (λ _. refl) (λ _. refl))
-
-  pub as-screened : (o : Bool) → ours g (first p) ≡ o
-      → cond (eqb (screen neitherType p .answer) cutPacket || eqb (screen neitherType p .answer) reservedType)
-      (screen neitherType p) (cond o (screen neitherType p) (answering notForCable))
-      ≡ screenOut g p
+  pub screened-none : length p ≡ 0 → screenOut g p ≡ answering cutPacket
   unfolding screenOut
-  as-screened o e =
-      rw (found, e)
-      (by-bool (eqb (length p) 0) (λ x. rw x)
-      (λ x. by-bool (reserved (messageType (first p))) (λ y. rw (x, y)) (λ y. rw (x, y, checked-high))))
+  screened-none z = rw (eq-eqb (length p) 0 z)
 
-  -- what holds of every answer holds of the screening
-  pub screens : (P : Screened → Type 0) → (p ≡ [] → P (answering cutPacket)) → P (answering reservedType)
-      → P (answering notForCable) → P (answering badStatus) → P (record { answer = badData; place = badPlaceOf p })
-      → P (answering goesOn) → P (screenOut g p)
+  pub screened-ours : (length p ≡ 0 → ⊥) → ours g (first p) ≡ true → screenOut g p ≡ checked (first p) (second p) goesOn
   unfolding screenOut
-  screens P none reserved-type other status fields good =
-      choose P (eqb (length p) 0) (λ e. none (at-none p (eqb-true (length p) 0 e)))
-      (λ _. choose P (reserved (messageType (first p))) (λ _. reserved-type)
-      (λ _. choose P (ours g (first p))
-      (λ _. choose P (not (goodStatus (first p))) (λ _. status)
-      (λ _. choose P (eqb (badPlaceOf p) 0) (λ _. good) (λ _. fields)))
-      (λ _. other)))
+  screened-ours n o = rw (ne-eqb (length p) 0 n, not-reserved g (first p) o, o)
 
-  -- the place goes with the answer, and only where no packet is whole does it stop a run
-  pub out-place : screenOut g p .place ≡ placeTold (screenOut g p .answer) p
-  out-place = screens (λ (s : Screened). s .place ≡ placeTold (s .answer) p) (λ _. refl) refl refl refl refl refl
+  pub screened-other : (length p ≡ 0 → ⊥) → ours g (first p) ≡ false → screenOut g p ≡ answering (otherAnswer (first p))
+  unfolding screenOut
+  screened-other n o =
+      by-bool (reserved (messageType (first p))) (λ r. rw (ne-eqb (length p) 0 n, r))
+      (λ r. rw (ne-eqb (length p) 0 n, r, o))
 
-  pub out-stops : stopsRun (screenOut g p .answer) ≡ true → p ≡ []
-  out-stops =
-      screens (λ (s : Screened). stopsRun (s .answer) ≡ true → p ≡ []) (λ e _. e) not-both not-both not-both not-both
-      not-both
-
-  -- a packet that passes, and one that does not
+  -- a packet that passes
   pub goes-out : screenOut g p .answer ≡ goesOn → packetOut g p ≡ giving (bytesOf (first p) (second p))
   unfolding packetOut screened
   goes-out e = rw e
 
-  pub stays-in : (screenOut g p .answer ≡ goesOn → ⊥) → packetOut g p ≡ refused (screenOut g p .answer) tt
-  unfolding packetOut screened
-  stays-in n = rw (ne-eqb (screenOut g p .answer) goesOn n)
+  -- no packet, one of ours, and one that is not
+  pub cut-out : length p ≡ 0 → packetOut g p ≡ stopped cutPacket
+  unfolding packetOut screened refused
+  cut-out z = rw (screened-none z)
 
-  pub refused-out : (d : Done) (out : List ℕ) → (screenOut g p .answer ≡ goesOn → ⊥)
-      → (placing (screenOut g p .answer) (screenOut g p .place) (d .read + length p) (d .written)
-      ≡ further d p (packetAt g p d out))
-      × (out ≡ written (d .written) (sentOf (packetAt g p d out)) out)
-  refused-out d out n =
-      let room = length out - d .written in
-      let a = screenOut g p .answer in
-      let z = refusal {T = ℕ × Unit {0}} a (room, tt) p out-stops in
-      rw (stays-in n, refused-fits {T = Unit {0}} room a tt)
-      (rw (z .0, z .1, z .2, out-place, add-zero (d .written)), rw (z .2) (sym (written-none (d .written) out)))
+  pub ours-out : (length p ≡ 0 → ⊥) → ours g (first p) ≡ true
+      → packetOut g p ≡ went (verdict (first p) (second p)) (sends (first p) (second p)) tt
+  unfolding packetOut screened refused sends clean pick
+  ours-out n o = rw (screened-ours n o) (go (goodStatus (first p)) (eqb (badPlaceOf p) 0) _)
+    where
+      bs : List ℕ
+      bs = bytesOf (first p) (second p)
 
--- bytes that have room, and bytes that have none
-module _
-    (d : Done) (p bs out : List ℕ) (n : ℕ) (m : length bs ≡ n) (fits : Bool) (after : List ℕ)
-    (q : Put bs (d .written) out fits after)
-  where
-    abbrev Given : Done → Type 0
-    Given r = (r ≡ further d p (givenAt bs d out)) × (after ≡ written (d .written) (sentOf (givenAt bs d out)) out)
+      go : (s b : Bool) (good : ℕ)
+          → screened (choice s b (badPlaceOf p) goesOn) (tt {0}) (went good bs tt)
+          ≡ went (choice s b (badPlaceOf p) good .answer) (pick (s && b) bs []) tt
+      go true true good = refl
+      go true false good = refl
+      go false b good = refl
 
-    no-place : (t : Bool) → placeTold (cond t takenIn sent) p ≡ 0
-    no-place true = refl
-    no-place false = refl
-
-    pub given-fits : fits ≡ true
-        → Given (counting (cond (eqb n 0) takenIn sent) (d .read + length p) (d .written + n))
-    given-fits t =
-        let l : leb (length bs) (length out - d .written) ≡ true = sym (q .answer) ∙ t in
-        (rw (l, no-place (eqb (length bs) 0), m), rw l (rw l at (q .holds)))
-
-    pub given-tight : fits ≡ false → Given (counting noRoom (d .read) (d .written))
-    given-tight t =
-        let l : leb (length bs) (length out - d .written) ≡ false = sym (q .answer) ∙ t in
-        (rw (l, add-zero (d .read), add-zero (d .written)), rw l (rw l at (q .holds) ∙ sym (written-none (d .written) out)))
+  pub other-out : (length p ≡ 0 → ⊥) → ours g (first p) ≡ false → packetOut g p ≡ went (otherAnswer (first p)) [] tt
+  unfolding packetOut screened refused
+  other-out n o =
+      by-bool (reserved (messageType (first p))) (λ r. rw (screened-other n o, r)) (λ r. rw (screened-other n o, r))
 
 -- a step looks at its own packet alone, and goes on only with a whole one
 module _ (g : ℕ) where

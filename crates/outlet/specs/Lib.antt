@@ -1,1 +1,2 @@
 pub mod Outlet
+pub mod Sending

@@ -1,15 +1,14 @@
 -- Packets into bytes (RULES 12.4; 02 M-100): the screening, the bytes of a packet, one call and a run.
-use Prim.Native.Nat.{ℕ, _-_}
+use Prim.Native.Nat.{ℕ}
 use mathlib.Core.Bool.{Bool, cond, not, _&&_, _||_}
 use mathlib.Core.List.{List, [], _∷_, _++_}
 use lib.Dec.{eqb, leb, ltb}
-use lib.ListN.{drop, length, take}
+use lib.ListN.{length, take}
 use Rattle.ump.specs.Word.{byte1, byte2, byte3, byte4, count, groupOf, messageType, status}
 use Rattle.ump.specs.Packet.{cut, first, packet, second}
 use Rattle.fields.specs.Check.{checkedFields, goodStatus}
-use Rattle.stream.specs.declared.Done.{Done}
 use Rattle.stream.specs.Answers.{cutPacket, notForCable, outOfRange, reservedType, sent, takenIn}
-use Rattle.stream.specs.Call.{Call, fit, went, within}
+use Rattle.stream.specs.Call.{Call, went, within}
 use Rattle.stream.specs.Run.{Ran, called, run}
 use Rattle.screen.specs.declared.Screened.{Screened}
 use Rattle.screen.specs.Screen.{answering, checking, goesOn, reserved, screened}
@@ -63,17 +62,6 @@ packetOut g p = screened (screenOut g p) tt (giving (bytesOf (first p) (second p
 -- the same of the packet that stands first in the words left
 unfoldable pub stepOut : ℕ → Unit {0} → List ℕ → Call (Unit {0})
 stepOut g t s = packetOut g (packet s)
-
--- where a packet gives these bytes, after what was reported so far and with the room that the output still has
-abbrev pub givenAt : List ℕ → Done → List ℕ → Call (ℕ × Unit {0})
-givenAt bs d out = fit (length out - d .written) (giving bs)
-
--- of a packet there, and of the one that is next
-abbrev pub packetAt : ℕ → List ℕ → Done → List ℕ → Call (ℕ × Unit {0})
-packetAt g p d out = fit (length out - d .written) (packetOut g p)
-
-abbrev pub nextOut : ℕ → List ℕ → Done → List ℕ → Call (ℕ × Unit {0})
-nextOut g ws d out = within (stepOut g) (length out - d .written, tt) (drop (d .read) ws)
 
 -- a group above 15
 abbrev pub noGroup : ℕ → Ran (ℕ × Unit {0})

@@ -1,6 +1,8 @@
 // What the buffers of a program came to, all together.
 use stream::Done;
 use tally::SORTS;
+ghost use mathlib.Core.Path.{_≡_};
+ghost use mathlib.Core.Bool.{cond};
 
 // The words read and written in all, and how often each sort of packet came, at its number.
 pub struct Totals {
@@ -31,5 +33,12 @@ impl Totals {
             written: std::num::wrapping_add_u64(self.written, done.written as u64),
             counts,
         }
+    }
+
+    // Those before a buffer where what it came to could not be written, so that nothing counts that was not.
+    pub fn if_written(self, failed: bool, before: Totals) -> Totals
+        ensures { λ r. ⌜ r ≡ cond failed before self ⌝ }
+    {
+        if failed { before } else { self }
     }
 }

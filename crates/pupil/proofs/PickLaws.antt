@@ -1,52 +1,35 @@
 -- Laws of picking one channel's packets: each is one word; a step looks at its own packet alone and goes on only with a
 -- whole one; and what the code reports of a packet is what the definition says. Assumes nothing.
-use Prim.Native.Nat.{ℕ, zero, suc, _+_, _-_, _≤_, _<_}
-use mathlib.Core.Path.{_≡_, refl, sym}
+use Prim.Native.Nat.{ℕ, _+_, _-_, _≤_, _<_}
+use mathlib.Core.Path.{_≡_, refl, ap, sym, _∙_}
 use mathlib.Core.Bool.{true, false}
-use mathlib.Core.Logic.{⊎-elim}
 use mathlib.Core.List.{List, [], _∷_}
 use native.Mathlib.Omega.{arith}
 use native.Mathlib.Nat.{add-zero}
-use lib.Dec.{eqb, leb·zero}
+use lib.Dec.{leb·zero}
 use lib.ListN.{length, set, take}
 use lib.Seq.{sets-eq}
-use borrow.Author.Tests.{eqb-true, le-leb, lt-leb, ne-eqb}
+use borrow.Author.Tests.{le-leb, lt-leb, ne-eqb}
 use Rattle.ground.specs.Store.{written}
-use Rattle.ground.proofs.Bools.{and-left}
-use Rattle.ground.proofs.Cases.{not-both}
 use Rattle.ground.proofs.StoreLaws.{written-none}
 use Rattle.ump.specs.Word.{messageType, voice1}
-use Rattle.ump.specs.Packet.{first, packet, size}
-use Rattle.ump.proofs.PacketLaws.{packet-near, packet-size, size-range}
+use Rattle.ump.specs.Packet.{first, size}
+use Rattle.ump.proofs.PacketLaws.{packet-near, size-by}
 use Rattle.stream.specs.declared.Done.{Done}
 use Rattle.stream.specs.Answers.{cutPacket, noRoom, sent, takenIn}
 use Rattle.stream.specs.Call.{fit, sentOf}
 use Rattle.stream.specs.Report.{counting, further}
 use Rattle.stream.proofs.RunLoop.{Inside, packet-inside}
 use Rattle.stream.proofs.Stateless.{So}
-use Rattle.pupil.specs.Only.{handedAt, isOn, pick, picked, voiceOn}
+use Rattle.pupil.specs.Only.{handedAt, pick, picked, voiceOn}
 
 -- a MIDI 1.0 voice message has one word
 pub voice-size : (w : ℕ) → messageType w ≡ voice1 → size w ≡ 1
-unfolding size
-voice-size w e = rw e
+voice-size w e = size-by w voice1 e
 
-pub one-word : (group channel : ℕ) (s : List ℕ) → voiceOn group channel (first (packet s)) ≡ true
-    → packet s ≡ first (packet s) ∷ []
-unfolding packet
-one-word group channel [] h = not-both h
-one-word group channel (w ∷ s) h =
-    ⊎-elim (λ z. not-both (rw z at h)) (λ e. go (packet (w ∷ s)) (size w) refl (size-range w) (e .0) h)
-    (packet-size w s)
-  where
-    go : (p : List ℕ) (n : ℕ) → size w ≡ n → (1 ≤ n) × (n ≤ 4) → p ≡ take n (w ∷ s)
-        → voiceOn group channel (first p) ≡ true → p ≡ first p ∷ []
-    go p zero z r e h = absurd (omega arith)
-    go p (suc k) z r e h =
-        let v : voiceOn group channel w ≡ true = rw e at h in
-        let m = eqb-true (messageType w) voice1 (and-left (eqb (messageType w) voice1) (isOn group channel w) v) in
-        let one : k ≡ 0 = omega (arith, voice-size w m) in
-        rw (e, one)
+-- what is no MIDI 1.0 voice message is none of a channel
+pub no-voice : (group channel w : ℕ) → (messageType w ≡ voice1 → ⊥) → voiceOn group channel w ≡ false
+no-voice group channel w n = rw (ne-eqb (messageType w) voice1 n)
 
 module _ (group channel : ℕ) where
   pub pick-near : (t : Unit {0}) (w : ℕ) (s : List ℕ)
@@ -85,15 +68,21 @@ module _ (group channel : ℕ) (d : Done) (p out : List ℕ) where
       let c = fit (length out - d .written) (picked group channel p) in
       (r ≡ further d p c) × (after ≡ written (d .written) (sentOf c) out)
 
-  pub at-cut : length p ≡ 0 → At (counting cutPacket (d .read) (d .written)) out
+  pub at-cut : p ≡ [] → At (counting cutPacket (d .read) (d .written)) out
   at-cut e = rw e (rw (add-zero (d .read), add-zero (d .written)), sym (written-none (d .written) out))
 
   pub at-own : (w : ℕ) (r : Done) (after : List ℕ) → p ≡ w ∷ [] → voiceOn group channel w ≡ true
       → Handed d w out r after → At r after
   at-own w r after e v h = rw (e, v) h
 
-  pub at-other : (length p ≡ 0 → ⊥) → voiceOn group channel (first p) ≡ false
+  passed-over : (length p ≡ 0 → ⊥) → voiceOn group channel (first p) ≡ false
       → At (counting takenIn (d .read + length p) (d .written)) out
-  at-other n v =
-      rw (ne-eqb (length p) 0 n, v, leb·zero (length out - d .written))
+  passed-over some v =
+      rw (ne-eqb (length p) 0 some, v, leb·zero (length out - d .written))
       (rw (add-zero (d .written)), sym (written-none (d .written) out))
+
+  pub at-other : (w n : ℕ) → first p ≡ w → length p ≡ n → (n ≡ 0 → ⊥) → voiceOn group channel w ≡ false
+      → At (counting takenIn (d .read + n) (d .written)) out
+  at-other w n f l some v =
+      let z = passed-over (λ (e : length p ≡ 0). some (sym l ∙ e)) (ap (voiceOn group channel) f ∙ v) in
+      (ap (λ (k : ℕ). counting takenIn (d .read + k) (d .written)) (sym l) ∙ z .0, z .1)

@@ -15,7 +15,7 @@ use ump::MIDI1_VOICE;
 use ump::channel_of;
 use ump::group_of;
 use ump::message_type;
-use ump::packet_at;
+use ump::size;
 ghost use mathlib.Core.Path.{_≡_};
 ghost use Prim.Native.Nat.{_+_, _<_, _^_};
 ghost use mathlib.Core.List.{[], _∷_};
@@ -62,15 +62,21 @@ fn pick_next(words: &[u32], group: u8, channel: u8, past: Done, out: &mut [u32])
         (sentOf (pickAt group channel (now (words .entry)) past (now (out .entry)))) (now (out .entry)) ⌝ }
 {
     let read = past.read;
-    let packet = packet_at(words, read);
-    if packet.len() == 0 {
+    if words.len() <= read {
         return report(CUT, read, past.written);
     }
-    let w = packet[0];
-    if is_voice_on(group, channel, w) {
-        hand_back(w, past, out)
+    let w = words[read];
+    if message_type(w) == MIDI1_VOICE {
+        if is_voice_on(group, channel, w) {
+            return hand_back(w, past, out);
+        }
+        return report(TAKEN_IN, read + 1, past.written);
+    }
+    let n = size(w);
+    if words.len() - read < n {
+        report(CUT, read, past.written)
     } else {
-        report(TAKEN_IN, read + packet.len(), past.written)
+        report(TAKEN_IN, read + n, past.written)
     }
 }
 

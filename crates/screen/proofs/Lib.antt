@@ -1,1 +1,2 @@
+pub mod DownLaws
 pub mod ScreenLaws

@@ -25,7 +25,7 @@ use Rattle.screen.specs.Screen.{admitted, answering, beginnersRule, chec
 use Rattle.screen.specs.Screen.{fencedRule, goesOn, outside, reserved, ruled, screen, screenBy, screenVoice1, screened}
 
 -- a rule that asks nothing is the open one
-unruled : (rule : Rule) (wrong : ℕ) (p : List ℕ) → ruled rule ≡ false → screenBy rule wrong p ≡ screen wrong p
+pub unruled : (rule : Rule) (wrong : ℕ) (p : List ℕ) → ruled rule ≡ false → screenBy rule wrong p ≡ screen wrong p
 unfolding screenBy outside admitted
 unruled rule wrong p e =
     rw (neither-left (rule .beginners) (rule .fenced) e, neither-right (rule .beginners) (rule .fenced) e)
@@ -58,6 +58,13 @@ pub unruled-word : (rule : Rule) (w : ℕ) → ruled rule ≡ false → screenVo
 unfolding screenVoice1
 unruled-word rule w e = rw e
 
+-- no type that is passed on unchanged is reserved
+pub unchanged-free : (t : ℕ) → unchanged t ≡ true → reserved t ≡ false
+unchanged-free t h =
+    by-bool (eqb t 0) (λ e. rw (eqb-true t 0 e)) (λ a. by-bool (eqb t 1) (λ e. rw (eqb-true t 1 e))
+    (λ b. by-bool (eqb t 3) (λ e. rw (eqb-true t 3 e)) (λ c. by-bool (eqb t 5) (λ e. rw (eqb-true t 5 e))
+    (λ d. by-bool (eqb t 13) (λ e. rw (eqb-true t 13 e)) (λ f. rw (eqb-true t 15 (rw (a, b, c, d, f) at h)))))))
+
 -- a packet that is passed on unchanged goes on where it is good and no rule asks anything
 pub unchanged-goes : (rule : Rule) (wrong : ℕ) (p : List ℕ) → ruled rule ≡ false → unchanged wrong ≡ false
     → eqb (length p) 0 ≡ false → goodUnchanged (first p) (second p) ≡ true → screenBy rule wrong p ≡ answering goesOn
@@ -69,13 +76,7 @@ unchanged-goes rule wrong p e n some h =
     let t = and-left (unchanged u) (s && f) h in
     let g = and-right (unchanged u) (s && f) h in
     unruled rule wrong p e
-    ∙ rw (some, free u t, ne-eqb u wrong (λ q. true≢false (sym t ∙ ap unchanged q ∙ n)), and-left s f g, and-right s f g)
-  where
-    free : (t : ℕ) → unchanged t ≡ true → reserved t ≡ false
-    free t h =
-        by-bool (eqb t 0) (λ e. rw (eqb-true t 0 e)) (λ a. by-bool (eqb t 1) (λ e. rw (eqb-true t 1 e))
-        (λ b. by-bool (eqb t 3) (λ e. rw (eqb-true t 3 e)) (λ c. by-bool (eqb t 5) (λ e. rw (eqb-true t 5 e))
-        (λ d. by-bool (eqb t 13) (λ e. rw (eqb-true t 13 e)) (λ f. rw (eqb-true t 15 (rw (a, b, c, d, f) at h)))))))
+    ∙ rw (some, unchanged-free u t, ne-eqb u wrong (λ q. true≢false (sym t ∙ ap unchanged q ∙ n)), and-left s f g, and-right s f g)
 
 -- what a good packet is answered with goes on, or is not for this room
 admits : (P : ℕ → Type 0) (rule : Rule) (w : ℕ) → P goesOn → P notForRoom → P (admitted rule w)

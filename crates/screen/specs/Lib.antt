@@ -1,1 +1,2 @@
+pub mod Downward
 pub mod Screen

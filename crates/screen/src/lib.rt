@@ -23,6 +23,7 @@ ghost use Rattle.screen.specs.Screen.{admitted, answering, beginnersCont
 ghost use Rattle.screen.specs.Screen.{checkVoice1, checking, forBeginners, goesOn, groupBit, grouped};
 ghost use Rattle.screen.specs.Screen.{openRule, outside, placed, reserved, screenBy};
 ghost use Rattle.screen.specs.Screen.{ruled, screenVoice1};
+ghost use Rattle.screen.specs.Downward.{letsDown};
 ghost use Rattle.screen.specs.Screen;
 
 // What the screening finds of a packet: the answer that refuses it, or `GOES_ON`; and the place of the
@@ -203,6 +204,17 @@ pub fn is_ruled(rule: Rule) -> bool
     ensures { λ r. ⌜ r ≡ ruled rule ⌝ }
 {
     rule.beginners | rule.fenced
+}
+
+// Whether a rule lets a packet pass that goes down, by its first word. Of those only MT 0 is for the beginners' room.
+pub fn lets_down(rule: Rule, w: u32) -> bool
+    ensures { λ r. ⌜ r ≡ letsDown rule w ⌝ }
+{
+    if is_ruled(rule) {
+        !is_outside(rule, w) & (!rule.beginners | (message_type(w) == 0))
+    } else {
+        true
+    }
 }
 
 // A MIDI 1.0 voice message going up under a rule, by its one word.

@@ -46,7 +46,8 @@ fresh-unmarked =
 
 pub marked-sound : (t : List Record) → EmptyButMarks t → SoundTable t
 marked-sound t m k =
-    rw (m .each k) (proved-stays-sound .mark (empty .memory) (getD t k empty .memory .coarse) (proved-stays-sound .at-start))
+    rw (m .each k) (proved-stays-sound .mark (empty .memory) (getD t k empty .memory .coarse) (proved-stays-sound
+    .at-start))
 
 -- what a call with the table leaves, if it goes on, and what it stops with, by what the call with the packet's own
 -- record does
@@ -118,7 +119,8 @@ module _
         (said (within step u p) d, go (λ v. calls-keep Q said ps v) (within step u p) d)
       where
         go : ((v : ℕ × List Record) → Each P (v .1)
-            → All (λ (m : Made (ℕ × List Record)). Q (m .call)) (calls (within step) v ps)) → (c : Call (ℕ × List Record))
+            → All (λ (m : Made (ℕ × List Record)). Q (m .call)) (calls (within step) v ps)) → (c : Call (ℕ × List
+            Record))
             → Keeps P A c
             → All (λ (m : Made (ℕ × List Record)). Q (m .call)) (thenCalls c (λ v. calls (within step) v ps))
         go ih (went a ws v) d = ih v d

@@ -1,4 +1,5 @@
--- Over a table of sound records: whether they are asked or known makes no difference, and a run finishes, is cut or lacks
+-- Over a table of sound records: whether they are asked or known makes no difference, and a run finishes, is cut or
+-- lacks
 -- room. Assumes nothing.
 use Prim.Native.Nat.{ℕ}
 use mathlib.Core.Path.{_≡_, refl, sym, ap, _∙_}
@@ -37,7 +38,8 @@ module _ (A : ℕ → Type 0) (three : A cutPacket) where
       (go (callUp r s)
       (up-does (λ (x : Record). Good (set t k x)) A openRule r (packet s) (keep r (good .0 k)) three
       (λ n. not-both (sym n ∙ good .0 k))
-      (λ _ _ ok. keep (recordAfter r (read1 (first (packet s)))) (lift-sound (r .memory) ok _ (read1-fits (first (packet s)))))))
+      (λ _ _ ok. keep (recordAfter r (read1 (first (packet s)))) (lift-sound (r .memory) ok _ (read1-fits (first (packet
+      s)))))))
     where
       k : ℕ
       k = placeOf (first s)
@@ -57,11 +59,13 @@ module _ (A : ℕ → Type 0) (three : A cutPacket) where
   within-stops nine u s good = within-does tableUp Good A nine u s (stops (u .1) s good)
 
   -- what holds of 0, 3 and 9 holds of the answer of a run
-  pub three-answers : A noRoom → A sent → (room : ℕ) (t : List Record) (s : List ℕ) → Good t → A (runUp room t s .answer)
+  pub three-answers : A noRoom → A sent → (room : ℕ) (t : List Record) (s : List ℕ) → Good t → A (runUp room t s
+      .answer)
   unfolding runUp
   three-answers nine ended room t s good =
       rw (eq-eqb (length t) wholeTable (good .1))
-      (run-does (within tableUp) (λ (v : ℕ × List Record). Good (v .1)) A ended (within-stops nine) (cut s) (room, t) good
+      (run-does (within tableUp) (λ (v : ℕ × List Record). Good (v .1)) A ended (within-stops nine) (cut s) (room, t)
+      good
       .1)
 
 -- one call over known records is one over records that are asked
@@ -80,10 +84,12 @@ same-run (p ∷ ps) u good =
   where
     go : (c : Call (ℕ × List Record)) → Does (λ (v : ℕ × List Record). Good (v .1)) (λ _. Unit {0}) c
         → ((v : ℕ × List Record) → Good (v .1) → run (within (tableBy openRule true)) v ps ≡ run (within tableUp) v ps)
-        → thenRun p u c (λ v. run (within (tableBy openRule true)) v ps) ≡ thenRun p u c (λ v. run (within tableUp) v ps)
+        → thenRun p u c (λ v. run (within (tableBy openRule true)) v ps) ≡ thenRun p u c (λ v. run (within tableUp) v
+        ps)
     go (went a ws v) d ih = rw (ih v d)
     go (stopped a) d ih = refl
 
-pub known-run : (room : ℕ) (t : List Record) (s : List ℕ) → Good t → runBy (tableBy openRule true) room t s ≡ runUp room t s
+pub known-run : (room : ℕ) (t : List Record) (s : List ℕ) → Good t → runBy (tableBy openRule true) room t s ≡ runUp room
+    t s
 unfolding runUp
 known-run room t s good = rw (same-run (cut s) (room, t) good)

@@ -62,11 +62,13 @@ module _ (j : Job) (ws : List ℕ) (d : Done) (t : List Record) (out : List ℕ)
       (e .0, ap (set t (placeAt ws (d .read))) made-left ∙ e .2, ap (λ (x : List ℕ). written (d .written) x out) (e .1))
 
   -- without an effect the table stays as it was
-  pub left-alone : eqb (turn .effect) leaves ≡ true → set t (placeAt ws (d .read)) own ≡ set t (placeAt ws (d .read)) made
+  pub left-alone : eqb (turn .effect) leaves ≡ true → set t (placeAt ws (d .read)) own ≡ set t (placeAt ws (d .read))
+      made
   unfolding effected
   left-alone h = rw h
 
--- what the loop asks of a step: that it looks at its own packet alone, goes on only with a whole one, and refuses a table
+-- what the loop asks of a step: that it looks at its own packet alone, goes on only with a whole one, and refuses a
+-- table
 -- that is not whole
 module _ (j : Job) (t : List Record) where
   pub step-near : (w : ℕ) (s : List ℕ) → tableStep j t (take (size w) (w ∷ s)) ≡ tableStep j t (w ∷ s)
@@ -77,6 +79,7 @@ module _ (j : Job) (t : List Record) where
   unfolding tableStep
   step-inside w s = table-inside (j .rule) (j .known) t w s
 
-  pub step-refuses : (room : ℕ) (s : List ℕ) → eqb (length t) wholeTable ≡ false → within (tableStep j) (room, t) s ≡ stopped noTable
+  pub step-refuses : (room : ℕ) (s : List ℕ) → eqb (length t) wholeTable ≡ false → within (tableStep j) (room, t) s ≡
+      stopped noTable
   unfolding within tableStep tableBy
   step-refuses room s e = rw e

@@ -41,7 +41,8 @@ stored-inside : (t : List Record) (k : ℕ) (s : List ℕ) (c : Call Record) →
 stored-inside t k s (went a ws u) h = h
 stored-inside t k s (stopped a) h = tt
 
-pub table-inside : (rule : Rule) (known : Bool) (t : List Record) (w : ℕ) (s : List ℕ) → Inside (w ∷ s) (tableBy rule known t (w ∷ s))
+pub table-inside : (rule : Rule) (known : Bool) (t : List Record) (w : ℕ) (s : List ℕ) → Inside (w ∷ s) (tableBy rule
+    known t (w ∷ s))
 unfolding tableBy
 table-inside rule known t w s =
     let r = getD t (placeOf w) empty in
@@ -67,12 +68,14 @@ abbrev pub placeAt : List ℕ → ℕ → ℕ
 placeAt ws i = placeOf (getD ws i 0)
 
 pub table-at : (rule : Rule) (known : Bool) (ws : List ℕ) (t : List Record) (i : ℕ) → length t ≡ wholeTable
-    → tableBy rule known t (drop i ws) ≡ stored t (placeAt ws i) (callBy rule known (getD t (placeAt ws i) empty) (drop i ws))
+    → tableBy rule known t (drop i ws) ≡ stored t (placeAt ws i) (callBy rule known (getD t (placeAt ws i) empty) (drop
+    i ws))
 unfolding tableBy
 table-at rule known ws t i l = rw (eq-eqb (length t) wholeTable l, first-at ws i)
 
 -- what is reported of the call with the packet's own record is what is reported of the call with a whole table
-pub own-call : (rule : Rule) (known : Bool) (d : Done) (p : List ℕ) (room : ℕ) (t : List Record) (ws : List ℕ) (i : ℕ) → length t ≡ wholeTable
+pub own-call : (rule : Rule) (known : Bool) (d : Done) (p : List ℕ) (room : ℕ) (t : List Record) (ws : List ℕ) (i : ℕ) →
+    length t ≡ wholeTable
     → let own = within (callBy rule known) (room, getD t (placeAt ws i) empty) (drop i ws) in
     let all = within (tableBy rule known) (room, t) (drop i ws) in
     (further d p own ≡ further d p all) × (sentOf own ≡ sentOf all)

@@ -1,4 +1,5 @@
--- The structs that the walks move: each one's type, its machine value, and that the value has its MIR type. And the types of locals that are slices, and where a record of the table lies.
+-- The structs that the walks move: each one's type, its machine value, and that the value has its MIR type. And the
+-- types of locals that are slices, and where a record of the table lies.
 -- Assumes nothing, but `Given` for the types of machine values.
 use Prim.Native.Nat.{ℕ, _<_, _*_, _^_}
 use native.Mathlib.Nat.{lt-of-le-of-lt, lt-of-lt-of-le, mul-le-mul-right, le-of-lt}
@@ -30,6 +31,7 @@ use Rattle.stream.specs.declared.Done.{Done}
 use Rattle.stream.proofs.Done as TD
 use Rattle.stream.proofs.Done.Laws as TD′
 use Rattle.table.specs.declared.Progress.{Progress}
+use Rattle.table.specs.declared.Ended.{Ended}
 use Rattle.voice.specs.declared.EffectAndReport.{EffectAndReport}
 use Rattle.table.specs.declared.Job.{Job}
 use Rattle.table.specs.declared.TableAndReport.{TableAndReport}
@@ -37,6 +39,8 @@ use Rattle.table.proofs.Job as TJ
 use Rattle.table.proofs.Job.Laws as TJ′
 use Rattle.table.proofs.Progress as TP
 use Rattle.table.proofs.Progress.Laws as TP′
+use Rattle.table.proofs.Ended as TZ
+use Rattle.table.proofs.Ended.Laws as TZ′
 use Rattle.voice.proofs.EffectAndReport as TS
 use Rattle.voice.proofs.EffectAndReport.Laws as TS′
 use Rattle.table.proofs.TableAndReport as TT
@@ -107,6 +111,19 @@ tellsD = LL.tells TD.the-type TD′.the-laws
 pub done-is : (p : Progress) → Is P p (valsP p) → Is D (p .done) (valsD (p .done))
 done-is p g = LL.owed TP.the-type TP′.the-laws p (valsP p) g .0
 
+-- ---- Ended
+abbrev pub Z : RattleType
+Z = TZ.the-row
+
+abbrev pub valZ : Ended → Val
+valZ = LL.val TZ.the-type TZ′.the-laws
+
+abbrev pub valsZ : Ended → List Val
+valsZ = LL.vals TZ.the-type TZ′.the-laws
+
+abbrev pub tellsZ : Tells Z (Is Z) valsZ
+tellsZ = LL.tells TZ.the-type TZ′.the-laws
+
 -- ---- EffectAndReport, and its parts
 abbrev pub S : RattleType
 S = TS.the-row
@@ -140,21 +157,38 @@ U = TT.the-row
 abbrev pub valOf : Val → Done → Val
 valOf v d = vstruct (ofList (v ∷ valD d ∷ []))
 
-each-to : (xs : List Record) (us : List Val) → shadow (each Record (R .own) xs us) → shadow (each (TR.the-field .row .Denot) (TR.the-field .row .own) (map (TR.the-field .into) xs) us)
+each-to : (xs : List Record) (us : List Val) → shadow (each Record (R .own) xs us) → shadow (each (TR.the-field .row
+    .Denot) (TR.the-field .row .own) (map (TR.the-field .into) xs) us)
 each-to [] [] s = tt
 each-to [] (u ∷ us) s = absurd s
 each-to (x ∷ xs) [] s = absurd s
 each-to (x ∷ xs) (u ∷ us) s = (s .0, each-to xs us (s .1))
 
-pub table-is : (u : TableAndReport) (v : Val) → Is (Array R 256) (u .records) (v ∷ []) → Is D (u .done) (valsD (u .done)) → Is U u (valOf v (u .done) ∷ [])
+pub table-is : (u : TableAndReport) (v : Val) → Is (Array R 256) (u .records) (v ∷ []) → Is D (u .done) (valsD (u
+    .done)) → Is U u (valOf v (u .done) ∷ [])
 table-is u v is-a is-d = (
   (v ∷ [], (valsD (u .done), tt)),
-  (refl, ((is-a .0, ((is-a .1 .0 .0, length-map (u .records) (TR.the-field .into) ∙ is-a .1 .0 .1), each-to (u .records) (is-a .0) (is-a .1 .1))), (is-d, tt))),
+  (
+    refl,
+    (
+      (
+        is-a .0,
+        (
+          (is-a .1 .0 .0, length-map (u .records) (TR.the-field .into) ∙ is-a .1 .0 .1),
+          each-to (u .records)
+              (is-a .0) (is-a .1 .1),
+        ),
+      ),
+      (is-d, tt),
+    ),
+  ),
 )
 
 module _ {M : Type 1} (𝓤 : URA M) (H : Heap 𝓤) (A : Atoms 𝓤) (W : Given 𝓤 H A) where
-  pub typedArray : (tb : List Record) (v : Val) → Is (Array R 256) tb (v ∷ []) → Holds (hasTy (tyArray TR′.mir 256) v) × WT v
-  typedArray tb v g = array-typed R (λ x vs h. LL.lawful TR.the-type TR′.the-laws 𝓤 H A W .typed x vs h) 256 tb (v ∷ []) g .0
+  pub typedArray : (tb : List Record) (v : Val) → Is (Array R 256) tb (v ∷ []) → Holds (hasTy (tyArray TR′.mir 256) v) ×
+      WT v
+  typedArray tb v g = array-typed R (λ x vs h. LL.lawful TR.the-type TR′.the-laws 𝓤 H A W .typed x vs h) 256 tb (v ∷ [])
+      g .0
 
   pub typedU : (u : TableAndReport) (v : Val) → Is U u (v ∷ []) → Holds (hasTy TT′.mir v) × WT v
   typedU u v g = LL.lawful TT.the-type TT′.the-laws 𝓤 H A W .typed u (v ∷ []) g .0
@@ -180,6 +214,9 @@ module _ {M : Type 1} (𝓤 : URA M) (H : Heap 𝓤) (A : Atoms 𝓤) (W : Given
   pub typedD : (d : Done) → Is D d (valsD d) → Holds (hasTy TD′.mir (valD d)) × WT (valD d)
   typedD d g = LL.lawful TD.the-type TD′.the-laws 𝓤 H A W .typed d (valsD d) g .0
 
+  pub typedZ : (e : Ended) → Is Z e (valsZ e) → Holds (hasTy TZ′.mir (valZ e)) × WT (valZ e)
+  typedZ e g = LL.lawful TZ.the-type TZ′.the-laws 𝓤 H A W .typed e (valsZ e) g .0
+
   abbrev pub madeR : Makes 𝓤 H A R (Is R)
   madeR = LL.makes TR.the-type TR′.the-plain 𝓤 H A
 
@@ -197,6 +234,9 @@ module _ {M : Type 1} (𝓤 : URA M) (H : Heap 𝓤) (A : Atoms 𝓤) (W : Given
 
   abbrev pub madeD : Makes 𝓤 H A D (Is D)
   madeD = LL.makes TD.the-type TD′.the-plain 𝓤 H A
+
+  abbrev pub madeZ : Makes 𝓤 H A Z (Is Z)
+  madeZ = LL.makes TZ.the-type TZ′.the-plain 𝓤 H A
 
 -- ---- the types of the locals that are slices, at a lifetime
 abbrev pub tyWords : Lifetime → Ty

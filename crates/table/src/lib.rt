@@ -3,8 +3,8 @@
 // The loop never copies the table.
 //
 // `treat` has no `requires`, and promises the call or the run itself, on every input. What it is to do
-// is a job; `run_told` makes that of a run over a table that may be known to be sound. `run_from` lends
-// `treat` a table that the caller has by value.
+// is a job; `run_told` makes that of a run over a table that may be known to be sound. `run_from` does it
+// with a table that the caller has by value.
 use channel::RECORDS;
 use channel::Record;
 use effect::LEAVES;
@@ -14,6 +14,7 @@ use stream::Done;
 use stream::NO_TABLE;
 use stream::SENT;
 use stream::report;
+use stream::report_place;
 use voice::EffectAndReport;
 ghost use mathlib.Core.Path.{_≡_};
 ghost use mathlib.Core.Bool.{cond, not, _&&_, _||_};
@@ -27,6 +28,7 @@ ghost use Rattle.channel.specs.Record.{empty, wholeTable};
 ghost use Rattle.table.specs.Table.{tableAfter};
 ghost use Rattle.table.specs.Job.{asked, askedReport, beginnersCall, beginnersRun, knownRun, oneCall};
 ghost use Rattle.table.specs.Job.{recordStep, runTold, tableStep, wholeRun};
+ghost use Rattle.table.specs.Ended.{endedBy, reportIn};
 ghost use Rattle.table.specs.Next.{outputAfterCall, reportAfterCall, stateAfter, turnAt};
 
 // What the loop is told: whether it is to make one call only, whether its records are known to be
@@ -41,6 +43,15 @@ pub struct Job {
 struct Progress {
     done: Done,
     more: bool,
+}
+
+// A report as the loop hands it over. No two fields stand side by side as in `Done`, so that each is copied by itself:
+// two that are copied at once wait until both are written.
+struct Ended {
+    written: usize,
+    answer: u32,
+    read: usize,
+    place: u32,
 }
 
 // A table by value after a run, and the report.
@@ -249,10 +260,29 @@ fn onward(words: usize, job: Job, past: Done, done: Done) -> Progress
     }
 }
 
+// A report, as it is handed over.
+fn ending(done: Done) -> Ended
+    ensures { λ r. ⌜ r ≡ endedBy done ⌝ }
+{
+    Ended {
+        written: done.written,
+        answer: done.answer,
+        read: done.read,
+        place: done.place,
+    }
+}
+
+// The report that was handed over.
+fn report_of(end: Ended) -> Done
+    ensures { λ r. ⌜ r ≡ reportIn end ⌝ }
+{
+    report_place(end.answer, end.place, end.read, end.written)
+}
+
 // The call at the start of the words, or the run over all of them.
-pub fn treat(words: &[u32], job: Job, table: &mut [Record], out: &mut [u32]) -> Done
-    ensures report { λ r. ⌜ r ≡ askedReport job (now (words .entry))
-        (asked job (length (now (out .entry))) (now (table .entry)) (now (words .entry))) ⌝ }
+fn go_through(words: &[u32], job: Job, table: &mut [Record], out: &mut [u32]) -> Ended
+    ensures report { λ r. ⌜ r ≡ endedBy (askedReport job (now (words .entry))
+        (asked job (length (now (out .entry))) (now (table .entry)) (now (words .entry)))) ⌝ }
     ensures table { λ _. ⌜ now (table .exit)
         ≡ tableAfter (asked job (length (now (out .entry))) (now (table .entry)) (now (words .entry))) ⌝ }
     ensures output { λ _. ⌜ now (out .exit) ≡ atStart
@@ -263,7 +293,20 @@ pub fn treat(words: &[u32], job: Job, table: &mut [Record], out: &mut [u32]) -> 
         let done = one(words, job, p.done, table, out);
         p = onward(words.len(), job, p.done, done);
     }
-    p.done
+    ending(p.done)
+}
+
+// The same, with the report.
+pub fn treat(words: &[u32], job: Job, table: &mut [Record], out: &mut [u32]) -> Done
+    ensures report { λ r. ⌜ r ≡ askedReport job (now (words .entry))
+        (asked job (length (now (out .entry))) (now (table .entry)) (now (words .entry))) ⌝ }
+    ensures table { λ _. ⌜ now (table .exit)
+        ≡ tableAfter (asked job (length (now (out .entry))) (now (table .entry)) (now (words .entry))) ⌝ }
+    ensures output { λ _. ⌜ now (out .exit) ≡ atStart
+        (asked job (length (now (out .entry))) (now (table .entry)) (now (words .entry)) .sends) (now (out .entry)) ⌝ }
+{
+    let end = go_through(words, job, table, out);
+    report_of(end)
 }
 
 // The same with a table by value, which is lent to the loop.
@@ -281,6 +324,7 @@ pub fn run_from(
         (asked job (length (now (out .entry))) «table» (now (words .entry)) .sends) (now (out .entry)) ⌝ }
 {
     let mut records = table;
-    let done = treat(words, job, &mut records, out);
+    let end = go_through(words, job, &mut records, out);
+    let done = report_of(end);
     TableAndReport { records, done }
 }

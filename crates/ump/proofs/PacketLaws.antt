@@ -8,10 +8,11 @@ use native.Mathlib.Omega.{arith}
 use mathlib.Core.Logic.{_⊎_, inl, inr}
 use lib.Dec.{leb}
 use lib.ListN.{length, getD, take, drop, drop-of-length-le, length-drop, length-take}
-use lib.Seq.{take-at, drop-at, drop-cons, drop-drop, take-all, take-take}
+use native.Mathlib.Numerals.{add-one}
+use lib.Seq.{take-at, drop-at, drop-cons, drop-drop, length-take-le, take-all, take-take}
 use borrow.Author.Tests.{le-leb, lt-leb, leb-true, leb-false}
 use Rattle.ump.specs.Word.{messageType}
-use Rattle.ump.specs.Packet.{Whole, cut, cutAfter, packet, size, sizes}
+use Rattle.ump.specs.Packet.{Whole, cut, cutAfter, first, packet, size, sizes}
 
 abbrev AllIn : List ℕ → Type 0
 AllIn [] = Unit {0}
@@ -43,6 +44,37 @@ unfolding packet
 packet-whole-at s at h k =
     let e : size (getD s at 0) ≤ suc (length (drop (suc at) s)) = omega (arith, length-drop (suc at) s) in
     rw (drop-cons s at 0 h, le-leb (size (getD s at 0)) (suc (length (drop (suc at) s))) e)
+
+-- the size by the type
+pub size-by : (w t : ℕ) → messageType w ≡ t → size w ≡ getD sizes t 0
+unfolding size
+size-by w t e = rw e
+
+-- the packet at a place of the words, by the size of the word there
+module _ (ws : List ℕ) (at : ℕ) (here : at < length ws) where
+  abbrev word : ℕ
+  word = getD ws at 0
+
+  pub one-word : size word ≡ 1 → packet (drop at ws) ≡ word ∷ []
+  one-word e = packet-whole-at ws at here (omega (arith, e)) ∙ rw (e, drop-cons ws at 0 here)
+
+  pub two-words : size word ≡ 2 → 2 ≤ length ws - at → packet (drop at ws) ≡ word ∷ getD ws (at + 1) 0 ∷ []
+  two-words e h =
+      packet-whole-at ws at here (omega (arith, e))
+      ∙ rw (e, drop-cons ws at 0 here, drop-cons ws (suc at) 0 (omega arith), ← add-one at)
+
+  pub whole-words : size word ≤ length ws - at
+      → (first (packet (drop at ws)) ≡ word) × (length (packet (drop at ws)) ≡ size word)
+  whole-words h = go (size word) refl (size-range word)
+    where
+      go : (n : ℕ) → size word ≡ n → (1 ≤ size word) × (size word ≤ 4)
+          → (first (packet (drop at ws)) ≡ word) × (length (packet (drop at ws)) ≡ size word)
+      go zero e r = absurd (omega (arith, e, r .0))
+      go (suc n) e r = (
+        rw (packet-whole-at ws at here h, e, drop-cons ws at 0 here),
+        rw (packet-whole-at ws at here h)
+            (length-take-le (size word) (drop at ws) (omega (arith, length-drop at ws, h))),
+      )
 
 -- a packet is no longer than the words it stands in
 pub packet-length : (s : List ℕ) → length (packet s) ≤ length s

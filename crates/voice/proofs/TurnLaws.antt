@@ -1,48 +1,44 @@
 -- What a call in the middle of a stream comes to: a refusal, a stop, words sent, and a message with its record. Assumes nothing.
 use mathlib.Core.Path.{_≡_, refl, sym, ap, _∙_}
-use mathlib.Core.Bool.{Bool, true, false, cond, _&&_}
+use mathlib.Core.Bool.{Bool, true, false, cond}
 use mathlib.Core.Logic.{⊎-elim}
 use mathlib.Core.Option.{Option, none, some}
-use mathlib.Core.List.{List, [], _∷_, map}
+use mathlib.Core.List.{List, [], _∷_}
 use Prim.Native.Nat.{ℕ, zero, suc, _+_, _-_, _<_, _≤_, _^_}
 use native.Mathlib.Omega.{arith}
 use native.Mathlib.Nat.{add-zero}
 use lib.Dec.{eqb, leb, leb·zero, ltb}
-use lib.ListN.{List·getD-eq-default, drop, drop-of-length-le, getD, length, length-drop, length-map, length-take, take}
+use lib.ListN.{List·getD-eq-default, drop, drop-of-length-le, getD, length, length-drop, length-take, take}
 use lib.Seq.{drop-cons, sets, sets-eq}
 use borrow.Author.Tests.{eqb-false, eqb-true, le-leb, lt-leb, ltb-false, ltb-true, ne-eqb}
 use Rattle.ground.specs.Store.{written}
-use Rattle.ground.proofs.Bools.{and-left, and-right}
 use Rattle.ground.proofs.Cases.{by-bool, not-both}
 use Rattle.ground.proofs.StoreLaws.{written-none}
 use Rattle.ump.specs.Word.{channelOf, groupOf, messageType, voice1, voice2}
 use Rattle.ump.specs.Packet.{first, packet, size}
 use Rattle.ump.proofs.PacketLaws.{packet-length, packet-size, size-range}
 use Rattle.stream.specs.declared.Done.{Done}
-use Rattle.stream.specs.Answers.{noForm, noRoom, notSound, sent, stopsRun, takenIn}
+use Rattle.stream.specs.Answers.{noRoom, notSound, sent, stopsRun, takenIn}
 use Rattle.stream.specs.Call.{Call, answerOf, leftOf, readOf, refused, sentOf, stopped, went}
 use Rattle.stream.specs.Report.{counting, placeTold, placing}
 use Rattle.stream.proofs.CallLaws.{refusal, refused-fits}
 use Rattle.screen.specs.declared.Rule.{Rule}
 use Rattle.screen.specs.declared.Screened.{Screened}
 use Rattle.screen.specs.Screen.{goesOn, screenBy, screenVoice1, screened}
-use Rattle.screen.proofs.ScreenLaws.{asks-no-record, cut-only, refused-above, screen-place, screen-word}
+use Rattle.screen.proofs.ScreenLaws.{cut-only, refused-above, screen-place, screen-word}
 use Rattle.channel.specs.declared.Record.{Record}
-use Rattle.channel.specs.Record.{sound}
-use Rattle.message.specs.Message.{Midi1, Midi2, read1, read2, write1}
+use Rattle.message.specs.Message.{Midi2, read1}
 use Rattle.lift.specs.declared.UpwardMessage.{UpwardMessage}
 use Rattle.effect.specs.Effect.{leaves}
 use Rattle.lift.specs.Lift.{effectOf, lift}
 use Rattle.lift.specs.Played.{recordAfter}
 use Rattle.lift.specs.Values.{messageIn, sendingIn}
 use Rattle.lower.specs.declared.UpToFourWords.{UpToFourWords}
-use Rattle.lower.specs.Lower.{lower}
-use Rattle.lower.specs.Values.{packed, wordsIn}
-use Rattle.lower.proofs.LowerLaws.{lower-few}
+use Rattle.lower.specs.Values.{packed}
 use Rattle.voice.specs.declared.EffectAndReport.{EffectAndReport}
 use Rattle.voice.specs.Output.{sentWords}
-use Rattle.voice.specs.Packet.{effectAt, onwardOf, packetDownBy, packetIf, sending, sendingDown, speakDown, speakIf, spoken, voiceDown}
-use Rattle.voice.specs.Turn.{effectBy, found, inRoom, keptBack, next, outputAfter, outputOf, reportAfter, reportOf, turned}
+use Rattle.voice.specs.Packet.{effectAt, onwardOf, packetIf, sending, speakIf, spoken}
+use Rattle.voice.specs.Turn.{effectBy, inRoom, next, outputAfter, outputOf, reportAfter, reportOf, turned}
 use Rattle.voice.proofs.PacketLaws.{packet-voice1}
 
 -- up to four words come back from their values
@@ -237,36 +233,6 @@ module _ (d : Done) (p out : List ℕ) (r : Done) (o : List ℕ) where
         let told : s .place ≡ placeTold (s .answer) p = rw (← e) at (screen-place rule wrong p) in
         rw k (f ∙ ap (λ (x : ℕ). placing (s .answer) x (d .read + length p) (d .written)) told ∙ sym (refused-report {T = Unit {0}} d p out tt (s .answer) no-packet), g ∙ refused-output {T = Unit {0}} d p out tt (s .answer) no-packet)
 
-  -- a MIDI 2.0 message: without a form, or with
-  module _ (w v : ℕ) (x : UpToFourWords) (e : x ≡ wordsIn w (lower (read2 w v))) where
-    pub formless-comes : x .count ≡ 0 → r ≡ counting noForm (d .read + length p) (d .written) → o ≡ out → Comes (speakDown w v)
-    unfolding speakDown
-    formless-comes n f g = go (lower (read2 w v)) e
-      where
-        go : (ms : List Midi1) → x ≡ wordsIn w ms → Comes (sendingDown (groupOf w) (channelOf w) ms)
-        go [] k = rw (leb·zero (length out - d .written)) (f ∙ rw (add-zero (d .written)), g ∙ sym (written-none (d .written) out))
-        go (m ∷ ms) k = let z = ap (λ (y : UpToFourWords). y .count) k in absurd (omega arith)
-
-    pub form-comes : (x .count ≡ 0 → ⊥) → r ≡ reportAfter d (length p) out (sentWords x) → o ≡ outputAfter d out (sentWords x)
-        → Comes (speakDown w v)
-    unfolding speakDown
-    form-comes n f g = go (lower (read2 w v)) e (lower-few (read2 w v))
-      where
-        go : (ms : List Midi1) → x ≡ wordsIn w ms → length ms ≤ 4 → Comes (sendingDown (groupOf w) (channelOf w) ms)
-        go [] k l = absurd (n (ap (λ (y : UpToFourWords). y .count) k))
-        go (m ∷ ms) k l =
-            sent-comes x (map (write1 (groupOf w) (channelOf w)) (m ∷ ms)) k (omega (arith, l, length-map ms (write1 (groupOf w) (channelOf w)))) f g
-
--- going down, a packet that is a MIDI 2.0 voice message, and one that is not
-pub down-voice : (rule : Rule) (p : List ℕ) → messageType (first p) ≡ voice2
-    → packetDownBy rule p ≡ screened (screenBy rule voice1 p) tt (voiceDown p)
-unfolding packetDownBy
-down-voice rule p e = rw e
-
-pub down-other : (rule : Rule) (p : List ℕ) → (messageType (first p) ≡ voice2 → ⊥) → packetDownBy rule p ≡ onwardOf rule voice1 p
-unfolding packetDownBy
-down-other rule p n = rw (ne-eqb (messageType (first p)) voice2 n)
-
 -- at most as many words as are left, and at most four
 pub next-fits : (ws : List ℕ) (i : ℕ) → length ws < 2 ^ 64 → i < 2 ^ 64 → i + length (packet (drop i ws)) < 2 ^ 64
 next-fits ws i h k = omega (arith, packet-length (drop i ws), length-drop i ws, h, k)
@@ -306,49 +272,25 @@ check-refused rule ok d w r out s v e n =
       refused-output d (w ∷ []) out r (x .answer) no-packet,
     )
 
--- one that may speak, and one that may not
-module _ (rule : Rule) (ok : Bool) (d : Done) (w : ℕ) (r : Record) (out : List ℕ) (v : messageType w ≡ voice1) where
+-- one that the screening lets go on: it speaks where its record is sound, and else it stops
+module _ (rule : Rule) (ok : Bool) (d : Done) (w : ℕ) (r : Record) (out : List ℕ) (s : Screened)
+    (v : messageType w ≡ voice1) (e : s ≡ screenVoice1 rule w) (g : s .answer ≡ goesOn) where
   abbrev Acted : Call Record
   Acted = screened (screenBy rule voice2 (w ∷ [])) r (speakIf ok r w)
 
-  abbrev Passes : Bool
-  Passes = eqb (screenVoice1 rule w .answer) goesOn
+  passes-word : Acted ≡ speakIf ok r w
+  passes-word =
+      passes (screenBy rule voice2 (w ∷ [])) r (speakIf ok r w)
+      (sym (ap (λ (x : Screened). x .answer) (e ∙ screen-word rule w v)) ∙ g)
 
-  passes-word : Passes ≡ true → Acted ≡ speakIf ok r w
-  passes-word e = passes (screenBy rule voice2 (w ∷ [])) r (speakIf ok r w) (sym (ap (λ (x : Screened). x .answer) (screen-word rule w v)) ∙ eqb-true (screenVoice1 rule w .answer) goesOn e)
+  pub may-speak : ok ≡ true → Acted ≡ spoken r w
+  may-speak h = passes-word ∙ speaks-sound ok r w h
 
-  pub may-speak : (Passes && ok) ≡ true → Acted ≡ spoken r w
-  may-speak e = passes-word (and-left Passes ok e) ∙ speaks-sound ok r w (and-right Passes ok e)
-
-  -- the report of one that may not
-  abbrev Kept : Done
-  Kept = keptBack d (found (screenVoice1 rule w) ok)
-
-  kept-unsound : Passes ≡ true → ok ≡ false → Kept ≡ counting notSound (d .read) (d .written)
-  unfolding found keptBack
-  kept-unsound p n = rw (p, n)
-
-  kept-refused : Passes ≡ false
-      → Kept ≡ placing (screenVoice1 rule w .answer) (screenVoice1 rule w .place) (d .read + 1) (d .written)
-  unfolding found keptBack
-  kept-refused p =
-      let n : eqb (screenVoice1 rule w .answer) notSound ≡ false =
-      rw (screen-word rule w v) (asks-no-record rule voice2 (w ∷ [])) in
-      rw (p, n)
-
-  pub may-not-speak : (Passes && ok) ≡ false
-      → (record { after = r .memory; effect = leaves; done = Kept } ≡ turned d (w ∷ []) out r (effectOf (read1 w)) Acted)
+  pub may-not-speak : ok ≡ false
+      → (record { after = r .memory; effect = leaves; done = counting notSound (d .read) (d .written) }
+      ≡ turned d (w ∷ []) out r (effectOf (read1 w)) Acted)
       × (out ≡ outputOf d out Acted)
-  may-not-speak e =
-      by-bool Passes
-      (λ p. rw (kept-unsound p (rw p at e), passes-word p) (speaks-unsound ok d w r out (rw p at e)))
-      (λ p. rw (kept-refused p) (check-refused rule ok d w r out (screenVoice1 rule w) v refl (eqb-false (screenVoice1 rule w .answer) goesOn p)))
-
--- it may speak where nothing is found that refuses it
-pub found-nothing : (s : Screened) (ok : Bool) → eqb (found s ok .answer) goesOn ≡ (eqb (s .answer) goesOn && ok)
-unfolding found
-found-nothing s true = by-bool (eqb (s .answer) goesOn) (λ e. rw (e, e)) (λ e. rw (e, e))
-found-nothing s false = by-bool (eqb (s .answer) goesOn) (λ e. rw e) (λ e. rw (e, e))
+  may-not-speak h = rw passes-word (speaks-unsound ok d w r out h)
 
 -- and the packet that is one
 pub voice-turn : (rule : Rule) (ok : Bool) (d : Done) (ws out : List ℕ) (r : Record) (x : EffectAndReport) (o : List ℕ) → messageType (getD ws (d .read) 0) ≡ voice1

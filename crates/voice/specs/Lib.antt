@@ -1,3 +1,4 @@
 pub mod Packet
 pub mod Output
 pub mod Turn
+pub mod Down

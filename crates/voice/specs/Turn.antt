@@ -1,17 +1,15 @@
 -- A call in the middle of a stream: after what was read and written so far, into an output that may already hold words.
 use Prim.Native.Nat.{ℕ, _+_, _-_}
-use mathlib.Core.Bool.{Bool, cond, not, _&&_}
+use mathlib.Core.Bool.{cond}
 use mathlib.Core.List.{List}
 use lib.ListN.{drop, length}
-use lib.Dec.{eqb, leb}
+use lib.Dec.{leb}
 use Rattle.ground.specs.Store.{written}
 use Rattle.ump.specs.Packet.{packet}
 use Rattle.stream.specs.declared.Done.{Done}
-use Rattle.stream.specs.Answers.{noRoom, notSound, sent, takenIn}
+use Rattle.stream.specs.Answers.{noRoom, sent, takenIn}
 use Rattle.stream.specs.Call.{Call, answerOf, fit, leftOf, sentOf}
-use Rattle.stream.specs.Report.{counting, further, placing}
-use Rattle.screen.specs.declared.Screened.{Screened}
-use Rattle.screen.specs.Screen.{answering, goesOn}
+use Rattle.stream.specs.Report.{counting, further}
 use Rattle.channel.specs.declared.Record.{Record}
 use Rattle.effect.specs.Effect.{leaves}
 use Rattle.voice.specs.declared.EffectAndReport.{EffectAndReport}
@@ -43,17 +41,6 @@ turned d p out r may c =
       effect = effectBy may (inRoom d out c);
       done = reportOf d p out c;
     }
-
--- What is found of a MIDI 1.0 voice message: what the screening finds, and where that lets it go on, that its record is
--- not sound, unless `ok` says that it is.
-unfoldable pub found : Screened → Bool → Screened
-found s ok = cond (eqb (s .answer) goesOn && not ok) (answering notSound) s
-
--- the report of one that may not speak: it is read, unless its record is not sound
-unfoldable pub keptBack : Done → Screened → Done
-keptBack d s =
-    cond (eqb (s .answer) notSound) (counting notSound (d .read) (d .written))
-    (placing (s .answer) (s .place) (d .read + 1) (d .written))
 
 -- A row of words for an output from a place on, which holds them all or none; and what a packet of n words that sends
 -- them comes to.

@@ -1,7 +1,7 @@
 // One packet up with its record by value, one packet down, and the run down, which needs no table;
 // each writes into a lent output.
 //
-// A packet passes cut, type, check and act. No function has a `requires`, and each says what it
+// A packet passes cut, type, check and act. No public function has a `requires`, and each says what it
 // reports, what it does to the record and what the output holds after, on every input.
 mod downward;
 mod output;

@@ -40,7 +40,7 @@ pub(crate) fn same_words(p: &[u32]) -> UpToFourWords
 
 // Stores the words from a place on and answers true, or, where they do not fit, stores nothing and
 // answers false.
-fn put(out: &mut [u32], to: usize, words: UpToFourWords) -> bool
+pub(crate) fn put(out: &mut [u32], to: usize, words: UpToFourWords) -> bool
     requires { ⌜ words .count ≤ 4 ⌝ }
     ensures answer { λ r. ⌜ r ≡ leb (length (sentWords words)) (length (now (out .entry)) - to) ⌝ }
     ensures output { λ _. ⌜ now (out .exit) ≡ storedIn to (now (out .entry)) (sentWords words) ⌝ }

@@ -4,15 +4,12 @@ use crate::EffectAndReport;
 use crate::output::onward;
 use crate::output::refuse;
 use crate::output::room;
-use crate::output::same_words;
-use crate::output::send;
 use channel::Record;
 use effect::LEAVES;
 use lift::UpwardMessage;
 use memory::Memory;
 use screen::GOES_ON;
 use screen::Rule;
-use screen::Screened;
 use stream::Done;
 use stream::NO_ROOM;
 use stream::NOT_SOUND;
@@ -22,22 +19,18 @@ use stream::report;
 use ump::MIDI1_VOICE;
 use ump::MIDI2_VOICE;
 ghost use mathlib.Core.Path.{_≡_};
-ghost use mathlib.Core.Bool.{not, _&&_, _||_};
+ghost use mathlib.Core.Bool.{_||_};
 ghost use mathlib.Core.List.{[], _∷_};
-ghost use Prim.Native.Nat.{_+_, _≤_, _<_, _^_};
-ghost use lib.Dec.{eqb, ltb};
-ghost use lib.ListN.{length};
+ghost use Prim.Native.Nat.{_+_, _<_, _^_};
 ghost use Rattle.ump.specs.Word.{messageType, voice1, voice2};
-ghost use Rattle.ump.specs.Packet.{first, second};
-ghost use Rattle.fields.specs.Check.{goodUnchanged};
-ghost use Rattle.screen.specs.Screen.{goesOn, ruled, screenBy, screenVoice1, screened};
+ghost use Rattle.screen.specs.Screen.{screenBy, screened};
 ghost use Rattle.memory.specs.Memory.{sound as soundMemory};
 ghost use Rattle.channel.specs.Record.{sound};
 ghost use Rattle.message.specs.Message.{read1};
 ghost use Rattle.effect.specs.Effect.{leaves};
 ghost use Rattle.lift.specs.Lift.{effectOf};
-ghost use Rattle.voice.specs.Packet.{effectAt, onwardOf, packetIf, speakIf, spoken};
-ghost use Rattle.voice.specs.Turn.{found, keptBack, next, outputOf, reportOf, turned};
+ghost use Rattle.voice.specs.Packet.{effectAt, packetIf, speakIf, spoken};
+ghost use Rattle.voice.specs.Turn.{next, outputOf, turned};
 
 // The record stays.
 fn stays(record: Record, done: Done) -> EffectAndReport
@@ -93,56 +86,8 @@ fn is_found_sound(known: bool, memory: Memory) -> bool
     if known { true } else { memory.is_sound() }
 }
 
-// What is found of a MIDI 1.0 voice message under a rule: what the screening finds, and then whether its channel's
-// memory is sound.
-fn asked(memory: Memory, known: bool, w: u32, rule: Rule) -> Screened
-    ensures { λ r. ⌜ r ≡ found (screenVoice1 rule w) (known || soundMemory memory) ⌝ }
-{
-    let screened = screen::screen_voice1(rule, w);
-    if (screened.answer == GOES_ON) & !is_found_sound(known, memory) {
-        Screened {
-            answer: NOT_SOUND,
-            place: 0,
-        }
-    } else {
-        screened
-    }
-}
-
-// Whether nothing is found that refuses it. The word is asked first, and nothing else where the record is known and no
-// rule asks anything, as in most runs.
-fn may_speak(record: Record, known: bool, w: u32, rule: Rule) -> bool
-    requires { ⌜ messageType w ≡ voice1 ⌝ }
-    ensures { λ r. ⌜ r ≡ (eqb (screenVoice1 rule w .answer) goesOn && (known || sound «record»)) ⌝ }
-{
-    let memory = record.memory;
-    if screen::voice1_goes_on(w) {
-        if known & !screen::is_ruled(rule) {
-            return true;
-        }
-        if screen::is_ruled(rule) {
-            let found = asked(memory, known, w, rule);
-            return found.answer == GOES_ON;
-        }
-        memory.is_sound()
-    } else {
-        false
-    }
-}
-
-// The report of one that may not speak, by what was found. Where its record is not sound it is not read.
-fn kept_back(past: Done, found: Screened) -> Done
-    requires { ⌜ past .read + 1 < 2 ^ 64 ⌝ }
-    ensures { λ r. ⌜ r ≡ keptBack past found ⌝ }
-{
-    if found.answer == NOT_SOUND {
-        report(NOT_SOUND, past.read, past.written)
-    } else {
-        refuse(past, found, 1)
-    }
-}
-
-// A MIDI 1.0 voice message, by its one word, under a rule.
+// A MIDI 1.0 voice message, by its one word, under a rule. It is screened once: what is found lets it go on to its
+// record, or is what refuses it.
 fn voice_up(
     past: Done,
     record: Record,
@@ -157,36 +102,16 @@ fn voice_up(
     ensures output { λ _. ⌜ now (out .exit) ≡ outputOf past (now (out .entry))
         (screened (screenBy rule voice2 (w ∷ [])) «record» (speakIf (known || sound «record») «record» w)) ⌝ }
 {
-    if may_speak(record, known, w, rule) {
-        speak(past, record, w, out)
+    let memory = record.memory;
+    let screened = screen::screen_voice1(rule, w);
+    if screened.answer == GOES_ON {
+        if is_found_sound(known, memory) {
+            speak(past, record, w, out)
+        } else {
+            stays(record, report(NOT_SOUND, past.read, past.written))
+        }
     } else {
-        let memory = record.memory;
-        stays(record, kept_back(past, asked(memory, known, w, rule)))
-    }
-}
-
-// Whether no rule asks anything of a packet, and it is one that is passed on unchanged and has nothing bad.
-fn may_pass(packet: &[u32], rule: Rule) -> bool
-    ensures { λ r. ⌜ r ≡ (not (ruled rule) && (ltb 0 (length (now (packet .entry)))
-        && goodUnchanged (first (now (packet .entry))) (second (now (packet .entry))))) ⌝ }
-{
-    let w = ump::word_at(packet, 0);
-    let v = ump::word_at(packet, 1);
-    !screen::is_ruled(rule) & ((0 < packet.len()) & fields::is_good_unchanged(w, v))
-}
-
-// A packet that is no MIDI 1.0 voice message, under a rule. What refuses it is worked out only where it may not pass.
-fn other_up(past: Done, packet: &[u32], out: &mut [u32], rule: Rule) -> Done
-    requires { ⌜ (length (now packet) ≤ 4) × (past .read + length (now packet) < 2 ^ 64) ⌝ }
-    ensures report { λ r. ⌜ r
-        ≡ reportOf past (now (packet .entry)) (now (out .entry)) (onwardOf rule voice2 (now (packet .entry))) ⌝ }
-    ensures output { λ _. ⌜ now (out .exit)
-        ≡ outputOf past (now (out .entry)) (onwardOf rule voice2 (now (packet .entry))) ⌝ }
-{
-    if may_pass(packet, rule) {
-        send(past, packet.len(), same_words(packet), out)
-    } else {
-        onward(MIDI2_VOICE, past, packet, out, rule)
+        stays(record, refuse(past, screened, 1))
     }
 }
 
@@ -211,7 +136,7 @@ pub fn up(
     if ump::message_type(w) == MIDI1_VOICE {
         voice_up(past, record, known, w, out, rule)
     } else {
-        let done = other_up(past, ump::packet_at(words, at), out, rule);
+        let done = onward(MIDI2_VOICE, past, ump::packet_at(words, at), out, rule);
         stays(record, done)
     }
 }

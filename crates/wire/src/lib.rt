@@ -1,6 +1,6 @@
 // Words in a buffer of bytes: four bytes each, the highest first.
 //
-// No function has a `requires`. Each says what it answers and what a lent buffer holds after it, on
+// No public function has a `requires`. Each says what it answers and what a lent buffer holds after it, on
 // every input. What does not fit is not written.
 ghost use mathlib.Core.Path.{_≡_};
 ghost use Prim.Native.Nat.{_+_, _<_, _≤_, _^_, min};

@@ -1,4 +1,4 @@
--- `sockets::every_byte`: the claim is proved in proofs/EveryByteLaws.antt.
+-- `cable_claims::every_byte`: the claim is proved in proofs/EveryByteLaws.antt.
 use Rattle.cable_claims.proofs.EveryByteLaws.{proved-every-byte}
 use Rattle.cable_claims.proofs.every_byte.Statement.{statement}
 use Rattle.cable_claims.proofs.every_byte.Tie as tie

@@ -1,4 +1,4 @@
--- `sockets::real_time_apart`: the claim is proved in proofs/RealTimeLaws.antt.
+-- `cable_claims::real_time_apart`: the claim is proved in proofs/RealTimeLaws.antt.
 use Rattle.cable_claims.proofs.RealTimeLaws.{proved-real-time}
 use Rattle.cable_claims.proofs.real_time_apart.Statement.{statement}
 use Rattle.cable_claims.proofs.real_time_apart.Tie as tie

@@ -1,4 +1,4 @@
--- `sockets::room`: the claim is proved in proofs/RoomLaws.antt.
+-- `cable_claims::room`: the claim is proved in proofs/RoomLaws.antt.
 use Rattle.cable_claims.proofs.RoomLaws.{proved-room}
 use Rattle.cable_claims.proofs.room.Statement.{statement}
 use Rattle.cable_claims.proofs.room.Tie as tie

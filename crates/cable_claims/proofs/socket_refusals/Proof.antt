@@ -1,4 +1,4 @@
--- `sockets::socket_refusals`: the claim is proved in proofs/RefusalLaws.antt.
+-- `cable_claims::socket_refusals`: the claim is proved in proofs/RefusalLaws.antt.
 use Rattle.cable_claims.proofs.RefusalLaws.{proved-refusals}
 use Rattle.cable_claims.proofs.socket_refusals.Statement.{statement}
 use Rattle.cable_claims.proofs.socket_refusals.Tie as tie

@@ -1,4 +1,4 @@
--- `sockets::stays_sound`: the claim is proved in proofs/SoundLaws.antt.
+-- `cable_claims::stays_sound`: the claim is proved in proofs/SoundLaws.antt.
 use Rattle.cable_claims.proofs.SoundLaws.{proved-sound}
 use Rattle.cable_claims.proofs.stays_sound.Statement.{statement}
 use Rattle.cable_claims.proofs.stays_sound.Tie as tie

@@ -1,4 +1,4 @@
--- `sockets::voice_returns`: the claim is proved in proofs/VoiceLaws.antt.
+-- `cable_claims::voice_returns`: the claim is proved in proofs/VoiceLaws.antt.
 use Rattle.cable_claims.proofs.VoiceLaws.{proved-voice}
 use Rattle.cable_claims.proofs.voice_returns.Statement.{statement}
 use Rattle.cable_claims.proofs.voice_returns.Tie as tie

@@ -18,7 +18,7 @@ turn-spec =
     (tie.spec
     (λ c. search needs) (λ c κs. search needs) (λ c. search needs)
     (λ c. let r = reading c .read-more in sym (length-take-le (r .result .have) (r .last .1 .1 .0) (r .ensures)))
-    (λ c κs. search needs) (λ c. search needs) (λ c κs. search needs) (λ c κs. search needs)
+    (λ c κs. search needs) (λ c. search needs) (λ c κs. search needs) (λ c κs. search needs) (λ c κs. search needs)
     (λ c. let k = c .before .before .before .before .before .before in
     k .carry .kept .0 ∙ reading (passing k) .read-more .kept .1 .1 .0)
     (λ c. search needs) (λ c. search needs) (λ c. search needs))

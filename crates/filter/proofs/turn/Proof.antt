@@ -46,7 +46,7 @@ turn-spec =
     (λ c. let f = c .before .before .before .before .before in sym (length-take-le (f .words-of .result) (f .words-of .last .1 .0) (filled f .0)))
     (λ c κs. search needs) (λ c κs. search needs)
     mul-carry
-    (λ c κs. search needs)
+    (λ c κs. search needs) (λ c κs. search needs)
     (λ c. let k = c .before .before .before .before .before .before in k .carry .kept .0 ∙ reading (filling (translating k)) .read-more .kept .0)
     (λ c. filling (translating (c .before .before .before .before .before .before)) .words-of .kept .1 .0)
     (λ c. translating (c .before .before .before .before .before .before) .translate .kept .1 .1 .1 .1 .0)

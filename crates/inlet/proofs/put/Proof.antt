@@ -22,33 +22,30 @@ returns-2 c =
 returns-3 : tie.Need-returns-3
 returns-3 c =
     let g = c .before .before .before .args in
-    put-short _ (g .to) (now (g .out)) (omega (arith, length-take (g .count) (g .w ∷ g .v ∷ [])))
+    let two = g .w ∷ g .v ∷ [] in
+    let stored = sets-eq two (now (g .out)) (g .to) (omega arith) in
+    rw (c .if3 .taken) (simp unary-clauses (put-all two (g .to) (now (g .out)) _ (omega arith) stored))
 
 returns-4 : tie.Need-returns-4
 returns-4 c =
-    let g = c .before .before .before .before .args in
-    rw (c .if4 .taken) (simp unary-clauses (put-all (g .w ∷ g .v ∷ []) (g .to) (now (g .out)) _ (omega arith) (sets-eq (g .w ∷ g .v ∷ []) (now (g .out)) (g .to) (omega arith))))
-
-returns-5 : tie.Need-returns-5
-returns-5 c =
-    let g = c .before .before .before .before .args in
+    let g = c .before .before .before .args in
     let one : g .count ≡ 1 = omega arith in
-    rw one (put-all (g .w ∷ []) (g .to) (now (g .out)) _ (omega arith) (sets-eq (g .w ∷ []) (now (g .out)) (g .to) (omega arith)))
+    let stored = sets-eq (g .w ∷ []) (now (g .out)) (g .to) (omega arith) in
+    rw one (put-all (g .w ∷ []) (g .to) (now (g .out)) _ (omega arith) stored)
 
 pub put-spec : {M : Type 1} → statement M
 put-spec =
     tie.close
     (tie.spec
     returns
-    returns-2
     (λ c. search needs)
-    returns-3
+    returns-2
     (λ c. search needs)
     (λ c. search needs)
     (λ c. search needs)
     (λ c. search needs)
     (λ c. simp length-set (omega arith))
     (λ c. search needs)
-    returns-4
+    returns-3
     (λ c. search needs)
-    returns-5)
+    returns-4)

@@ -11,4 +11,12 @@ entered-by-spec =
     (tie.spec
     (λ c κs. search needs) (λ c κs. search needs) (λ c κs. search needs) (λ c κs. search needs)
     (λ c κs. search needs) (λ c. search needs) (λ c κs. search needs) (λ c. search needs) (λ c κs. search needs)
-    (λ c. simp (c .control-word4 .ensures, c .before .control-word3 .ensures, c .before .before .control-word2 .ensures, c .before .before .before .byte4 .ensures, c .before .before .before .before .control-word .ensures, c .before .before .before .before .before .byte3 .ensures, c .before .before .before .before .before .before .down-32-to-14 .ensures)))
+    (λ c. simp (
+      c .control-word4 .ensures,
+      c .before .control-word3 .ensures,
+      c .before .before .control-word2 .ensures,
+      c .before .before .before .byte4 .ensures,
+      c .before .before .before .before .control-word .ensures,
+      c .before .before .before .before .before .byte3 .ensures,
+      c .before .before .before .before .before .before .down-32-to-14 .ensures,
+    )))

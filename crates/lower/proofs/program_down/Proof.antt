@@ -14,5 +14,21 @@ program-down-spec =
     (λ c κs. search needs) (λ c κs. search needs) (λ c κs. search needs) (λ c κs. search needs)
     (λ c κs. search needs) (λ c κs. search needs) (λ c κs. search needs) (λ c κs. search needs)
     (λ c κs. search needs)
-    (λ c. simp (tests, c .voice-word .ensures, c .before .byte1 .ensures, c .before .before .control-word2 .ensures, c .before .before .before .byte4 .ensures, c .before .before .before .before .control-word .ensures, c .before .before .before .before .before .byte3 .ensures, c .before .before .before .before .before .before .if1 .taken, ← c .before .before .before .before .before .before .before .has-bank .ensures))
-    (λ c. simp (tests, c .one-word .ensures, c .before .byte12 .ensures, c .before .before .if1 .left, ← c .before .before .before .has-bank .ensures)))
+    (λ c. simp (
+      tests,
+      c .voice-word .ensures,
+      c .before .byte1 .ensures,
+      c .before .before .control-word2 .ensures,
+      c .before .before .before .byte4 .ensures,
+      c .before .before .before .before .control-word .ensures,
+      c .before .before .before .before .before .byte3 .ensures,
+      c .before .before .before .before .before .before .if1 .taken,
+      ← c .before .before .before .before .before .before .before .has-bank .ensures,
+    ))
+    (λ c. simp (
+      tests,
+      c .one-word .ensures,
+      c .before .byte12 .ensures,
+      c .before .before .if1 .left,
+      ← c .before .before .before .has-bank .ensures,
+    )))

@@ -16,5 +16,18 @@ end-in-spec =
     (λ c κs. search needs)
     (λ c κs. search needs)
     (λ c κs. search needs)
-    (λ c. simp (c .packet .ensures, c .before .fresh .ensures, c .before .before .if1 .taken, c .before .before .before .chosen .ensures))
-    (λ c. simp (tests, c .packet2 .ensures, c .before .fresh2 .ensures, c .before .before .if1 .left, c .before .before .before .chosen .ensures)))
+    (λ c.
+    simp (
+      c .packet .ensures,
+      c .before .fresh .ensures,
+      c .before .before .if1 .taken,
+      c .before .before .before .chosen .ensures,
+    ))
+    (λ c.
+    simp (
+      tests,
+      c .packet2 .ensures,
+      c .before .fresh2 .ensures,
+      c .before .before .if1 .left,
+      c .before .before .before .chosen .ensures,
+    )))

@@ -17,4 +17,11 @@ exclusive-in-spec =
     (λ c κs. search needs)
     (λ c κs. search needs)
     (λ c. simp (tests, c .silent .ensures, c .before .with-byte .ensures, c .before .before .if1 .taken))
-    (λ c. simp (tests, c .packet .ensures, c .before .first-held .ensures, c .before .before .chosen .ensures, c .before .before .before .before .if1 .left)))
+    (λ c.
+    simp (
+      tests,
+      c .packet .ensures,
+      c .before .first-held .ensures,
+      c .before .before .chosen .ensures,
+      c .before .before .before .before .if1 .left,
+    )))

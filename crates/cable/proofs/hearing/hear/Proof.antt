@@ -1,25 +1,13 @@
--- `cable::hearing::hear`: way by way.
-use Rattle.ground.proofs.Tests.{tests}
-use Rattle.cable.specs.State.{pick}
-use Rattle.cable.specs.Hearing.{byteIn}
+-- `cable::hearing::hear`: the byte of its receiver.
 use borrow.Author.Needs.{needs}
-use borrow.Author.Tests.{eq-eqb, le-ltb, lt-leb, ne-eqb}
 use Rattle.cable.proofs.hearing.hear.Statement.{statement}
 use Rattle.cable.proofs.hearing.hear.Tie as tie
 
 pub hear-spec : {M : Type 1} → statement M
-unfolding byteIn pick
 hear-spec =
     tie.close
     (tie.spec
     (λ c κs. search needs)
-    (λ c. simp (tests, c .real-time-in .ensures, c .before .if1 .taken))
-    (λ c κs. search needs)
-    (λ c. simp (tests, c .data-in .ensures, c .before .if2 .taken, c .before .before .if1 .left))
-    (λ c κs. search needs)
-    (λ c. simp (tests, c .status-in .ensures, c .before .if3 .taken, c .before .before .before .if2 .left, c .before .before .before .before .if1 .left))
     (λ c κs. search needs)
     (λ c κs. search needs)
-    (λ c κs. search needs)
-    (λ c. simp (eq-eqb _ _ (c .before .if4 .taken), ne-eqb _ _ (c .before .before .before .if3 .left), le-ltb _ _ (c .before .before .before .before .before .if2 .left), lt-leb _ _ (c .before .before .before .before .before .before .if1 .left)) (c .end-in .ensures))
-    (λ c. simp (tests, c .silent .ensures, c .before .fresh .ensures, c .before .before .if4 .left, c .before .before .before .before .if3 .left, c .before .before .before .before .before .before .if2 .left, c .before .before .before .before .before .before .before .if1 .left)))
+    (λ c. rw (c .cable-of .ensures, c .before .receive .ensures, c .before .before .receiver-of .ensures)))

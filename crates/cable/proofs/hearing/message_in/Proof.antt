@@ -16,9 +16,20 @@ message-in-spec =
     (λ c κs. search needs)
     (λ c κs. search needs)
     (λ c κs. search needs)
-    (λ c. search needs)
     (λ c κs. search needs)
-    (λ c κs. search needs)
-    (λ c κs. search needs)
-    (λ c. simp (tests, c .first-in .ensures, c .before .needed .ensures, c .before .before .if2 .taken, c .before .before .before .before .if1 .left))
-    (λ c. simp (tests, c .message .ensures, c .before .fresh .ensures, c .before .before .message-word .ensures, c .before .before .before .chosen .ensures, c .before .before .before .before .before .if2 .left, c .before .before .before .before .before .before .before .if1 .left)))
+    (λ c.
+    simp (
+      tests,
+      c .first-in .ensures,
+      c .before .needed .ensures,
+      c .before .before .if2 .taken,
+      c .before .before .before .before .if1 .left,
+    ))
+    (λ c.
+    simp (
+      tests,
+      c .complete .ensures,
+      c .before .low-byte .ensures,
+      c .before .before .before .if2 .left,
+      c .before .before .before .before .before .if1 .left,
+    )))

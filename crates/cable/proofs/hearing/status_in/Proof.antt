@@ -17,10 +17,34 @@ status-in-spec =
     (λ c κs. search needs)
     (λ c κs. search needs)
     (λ c κs. search needs)
-    (λ c. simp (tests, c .message .ensures, c .before .fresh2 .ensures, c .before .before .message-word .ensures, c .before .before .before .if2 .taken, c .before .before .before .before .if1 .left))
+    (λ c.
+    simp (
+      tests,
+      c .message .ensures,
+      c .before .fresh2 .ensures,
+      c .before .before .message-word .ensures,
+      c .before .before .before .if2 .taken,
+      c .before .before .before .before .if1 .left,
+    ))
     (λ c κs. search needs)
     (λ c κs. search needs)
     (λ c κs. search needs)
     (λ c κs. search needs)
-    (λ c. simp (tests, c .silent2 .ensures, c .before .fresh3 .ensures, c .before .before .if3 .taken, c .before .before .before .if2 .left, c .before .before .before .before .if1 .left))
-    (λ c. simp (tests, c .silent3 .ensures, c .before .fresh4 .ensures, c .before .before .if3 .left, c .before .before .before .if2 .left, c .before .before .before .before .if1 .left)))
+    (λ c.
+    simp (
+      tests,
+      c .silent2 .ensures,
+      c .before .fresh3 .ensures,
+      c .before .before .if3 .taken,
+      c .before .before .before .if2 .left,
+      c .before .before .before .before .if1 .left,
+    ))
+    (λ c.
+    simp (
+      tests,
+      c .silent3 .ensures,
+      c .before .fresh4 .ensures,
+      c .before .before .if3 .left,
+      c .before .before .before .if2 .left,
+      c .before .before .before .before .if1 .left,
+    )))

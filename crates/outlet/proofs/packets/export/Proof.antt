@@ -1,6 +1,5 @@
 -- `outlet::packets::export`: the group is asked for first.
 use mathlib.Core.Path.{refl}
-use native.Mathlib.Nat.{sub-zero, zero-add}
 use borrow.Author.Tests.{le-ltb, lt-ltb}
 use Rattle.ground.proofs.StoreLaws.{start-written}
 use Rattle.outlet.specs.Outlet.{oneOut}
@@ -15,12 +14,10 @@ returns c = rw (lt-ltb 15 _ (c .before .if1 .taken)) (c .report .ensures, refl)
 returns-2 : tie.Need-returns-2
 unfolding oneOut
 returns-2 c =
-    let d = c .before .before .before .before in
-    let a = d .before .before .before .before .args in
-    rw (le-ltb 15 _ (d .before .if1 .left))
-    (simp (d .report2 .ensures, sub-zero, zero-add, start-written) at (c .before .before .export-next .ensures))
+    rw (le-ltb 15 _ (c .before .before .before .before .if1 .left))
+    (simp start-written at (c .before .before .export-first .ensures))
 
 pub export-spec : {M : Type 1} → statement M
 export-spec =
     tie.close
-    (tie.spec (λ c κs. search needs) (λ c κs. search needs) (λ c κs. search needs) returns (λ c. search needs) returns-2)
+    (tie.spec (λ c κs. search needs) (λ c κs. search needs) returns (λ c. search needs) returns-2)

@@ -1,4 +1,5 @@
--- `voice::upward::is_found_sound` meets its contract: the memory is asked where nothing is known of it. Assumes nothing.
+-- `voice::upward::is_found_sound` meets its contract: the memory is asked where nothing is known of it. Assumes
+-- nothing.
 use borrow.Author.Needs.{needs}
 use Rattle.voice.proofs.upward.is_found_sound.Statement.{statement}
 use Rattle.voice.proofs.upward.is_found_sound.Tie as tie

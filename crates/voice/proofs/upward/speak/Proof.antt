@@ -14,14 +14,21 @@ returns c =
     let a = c .before .before .before .before .before .before .before .before .args in
     let m = c .before .before .before .before .before .lifted in
     rw (c .stays .ensures, c .before .report .ensures)
-    (message-tight (a .past) (a .w) (a .«record») (now (a .out)) (m .result) (m .ensures) (c .before .before .before .before .if1 .taken) (omega (arith, c .before .before .if2 .taken, c .before .before .before .room .ensures)))
+    (message-tight (a .past) (a .w) (a .«record») (now (a .out)) (m .result) (m .ensures) (c .before .before .before
+    .before .if1 .taken) (omega (arith, c .before .before .if2 .taken, c .before .before .before .room .ensures)))
 
 returns-2 : tie.Need-returns-2
 returns-2 c =
     let a = c .before .before .before .before .before .before .before .before .args in
     let m = c .before .before .before .before .before .lifted in
-    let z = message-sent (a .past) (a .w) (a .«record») (now (a .out)) (m .result) (m .ensures) (c .before .before .before .before .if1 .taken)
-    (omega (arith, c .before .before .if2 .left, c .before .before .before .room .ensures)) (omega (arith, c .before .before .if2 .left, c .before .before .before .room .ensures)) in
+    let z = message-sent (a .past) (a .w) (a .«record») (now (a .out)) (m .result) (m .ensures) (c .before .before
+    .before .before .if1 .taken)
+    (omega (arith, c .before .before .if2 .left, c .before .before .before .room .ensures)) (omega (
+      arith,
+      c .before
+          .before .if2 .left,
+      c .before .before .before .room .ensures,
+    )) in
     rw (c .acts .ensures, c .before .report2 .ensures) (z .0, simp unary-clauses (z .1))
 
 returns-3 : tie.Need-returns-3
@@ -29,7 +36,8 @@ returns-3 c =
     let a = c .before .before .before .before .before .before .args in
     let m = c .before .before .before .lifted in
     rw (c .acts2 .ensures, c .before .report3 .ensures)
-    (message-quiet (a .past) (a .w) (a .«record») (now (a .out)) (m .result) (m .ensures) (c .before .before .if1 .left))
+    (message-quiet (a .past) (a .w) (a .«record») (now (a .out)) (m .result) (m .ensures) (c .before .before .if1
+    .left))
 
 pub speak-spec : {M : Type 1} → statement M
 speak-spec =
