@@ -58,8 +58,10 @@ module _ (w : World) (p : List ℕ) (full : All32 w) where
           rw (
             chains-piece (w .chains) (w .buffer) p full e,
             own-buffer (w .chains) (w .buffer) p full e,
-            getD-set-other (w .chains) (chainOf p) k (stepOf (chainAt (chainOf p) (w .chains)) (share (w .buffer)) (pieceOf p) .chain) fresh (λ q. ne (sym q)),
-            part-other (chainOf p) (own-part (chainAt (chainOf p) (w .chains)) (w .buffer) p) (w .buffer) (piece-low p e)
+            getD-set-other (w .chains) (chainOf p) k (stepOf (chainAt (chainOf p) (w .chains)) (share (w .buffer))
+                (pieceOf p) .chain) fresh (λ q. ne (sym q)),
+            part-other (chainOf p) (own-part (chainAt (chainOf p) (w .chains)) (w .buffer) p) (w .buffer) (piece-low p
+                e)
                 (own-length (chainAt (chainOf p) (w .chains)) (w .buffer) p e) k low ne,
           )
       go (inr n) = rw (others (w .chains) (w .buffer) p full n .0, same-buffer (w .chains) (w .buffer) p full n)
@@ -76,7 +78,8 @@ module _ (w : World) (p : List ℕ) (full : All32 w) where
         own-buffer (w .chains) (w .buffer) p full e,
         answer-piece (w .chains) (w .buffer) p full e,
         getD-set-same (w .chains) j (stepOf (chainAt j (w .chains)) (share (w .buffer)) (pieceOf p) .chain) fresh n,
-        part-same j (own-part (chainAt (chainOf p) (w .chains)) (w .buffer) p) (w .buffer) low (own-length (chainAt (chainOf p) (w .chains)) (w .buffer) p e),
+        part-same j (own-part (chainAt (chainOf p) (w .chains)) (w .buffer) p) (w .buffer) low (own-length (chainAt
+            (chainOf p) (w .chains)) (w .buffer) p e),
         e,
         part-length j (w .buffer) low,
       ) (refl, refl)
@@ -106,12 +109,17 @@ module _ (w : World) (p : List ℕ) (full : All32 w) where
       go (inr n) = rw (same-buffer (w .chains) (w .buffer) p full n)
 
   same : All32 (after w p) × (length (after w p .buffer) ≡ length (w .buffer))
-  same = (go (same-or-not (refusalOf p) goesOn), ap length (whole-buffer (w .chains) (w .buffer) p full) ∙ buffer-length (chainAt (chainOf p) (w .chains)) (w .buffer) p)
+  same = (
+    go (same-or-not (refusalOf p) goesOn),
+    ap length (whole-buffer (w .chains) (w .buffer) p full)
+        ∙ buffer-length (chainAt (chainOf p) (w .chains)) (w .buffer) p,
+  )
     where
       go : (refusalOf p ≡ goesOn) ⊎ (refusalOf p ≡ goesOn → ⊥) → All32 (after w p)
       go (inl e) =
           rw (chains-piece (w .chains) (w .buffer) p full e)
-          (length-set (w .chains) (chainOf p) (stepOf (chainAt (chainOf p) (w .chains)) (share (w .buffer)) (pieceOf p) .chain)
+          (length-set (w .chains) (chainOf p) (stepOf (chainAt (chainOf p) (w .chains)) (share (w .buffer)) (pieceOf
+          p) .chain)
           ∙ full)
       go (inr n) = rw (others (w .chains) (w .buffer) p full n .0) full
 

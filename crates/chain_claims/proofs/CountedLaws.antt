@@ -23,7 +23,8 @@ use Rattle.chain_claims.specs.Claims.{All32, Counted, Held, World, answe
 use Rattle.chain_claims.specs.Claims.{since, told}
 use Rattle.chain_claims.proofs.AloneLaws.{apart, gathered-alone}
 use Rattle.chain_claims.proofs.WholeLaws.{adds-is, one-is}
-use Rattle.chain_claims.proofs.MadeLaws.{idle, idle-next, out-closed, out-open, run-full, shut, told-idle, told-is}
+use Rattle.chain_claims.proofs.MadeLaws.{idle, idle-next, out-closed, out-open, run-full, shut, told-idle}
+use Rattle.chain_claims.proofs.MadeLaws.{told-is}
 use Rattle.chain_claims.proofs.OrderLaws.{sorted-cases}
 
 -- what the packets of chain k are counted as

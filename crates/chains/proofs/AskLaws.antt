@@ -93,12 +93,14 @@ module _ (p : List ℕ) (some : length p ≡ 0 → ⊥) where
 
   -- a packet whose chain is asked is good, has a chain, and no strange address
   asked : eqb (sorted p .answer) goesOn
-      ≡ (eqb (screen neitherType p .answer) goesOn && eqb (ofChain (chainBy (first p)) (strangeAddress (first p))) goesOn)
+      ≡ (eqb (screen neitherType p .answer) goesOn && eqb (ofChain (chainBy (first p)) (strangeAddress (first p)))
+      goesOn)
   unfolding sortBy
   asked = go (eqb (screen neitherType p .answer) goesOn) refl
     where
       go : (b : Bool) → eqb (screen neitherType p .answer) goesOn ≡ b
-          → eqb (cond b (answering (ofChain (chainBy (first p)) (strangeAddress (first p)))) (screen neitherType p) .answer)
+          → eqb (cond b (answering (ofChain (chainBy (first p)) (strangeAddress (first p)))) (screen neitherType p)
+          .answer)
           goesOn ≡ (b && eqb (ofChain (chainBy (first p)) (strangeAddress (first p))) goesOn)
       go true e = refl
       go false e = e

@@ -21,12 +21,14 @@ use Rattle.chains.specs.declared.Collected.{Collected}
 use Rattle.chains.specs.declared.Progress.{Progress}
 use Rattle.chains.specs.declared.Turned.{Turned}
 use Rattle.chains.specs.Step.{fresh}
-use Rattle.chains.specs.Collect.{bufferAfter, bufferWith, chainAt, chainOf, chainWith, chainsAfter, collected, collectedOf}
+use Rattle.chains.specs.Collect.{bufferAfter, bufferWith, chainAt, chainOf, chainWith, chainsAfter, collected}
+use Rattle.chains.specs.Collect.{collectedOf}
 use Rattle.chains.specs.Collect.{bufferOf, chainsOf, refusalOf, reportOf, reportWith, share, wholeList}
 use Rattle.chains.specs.Run.{drops, openAt}
 use Rattle.chains.specs.Turn.{calledWith, progressAfter, progressOf, turnedAt}
 use Rattle.chains.proofs.SortLaws.{chain-low, same-or-not}
-use Rattle.chains.proofs.CollectLaws.{buffer-same, chain-same, chains-same, report-beside, report-piece, whole-buffer}
+use Rattle.chains.proofs.CollectLaws.{buffer-same, chain-same, chains-same, report-beside, report-piece}
+use Rattle.chains.proofs.CollectLaws.{whole-buffer}
 use Rattle.chains.proofs.CollectLaws.{whole-chains, whole-report}
 use Rattle.chains.proofs.WithinLaws.{answer-other, buffer-length}
 use Rattle.chains.proofs.StandLaws.{first-of, piece-some, whole-at}
@@ -59,7 +61,8 @@ module _ (cs : List Chain) (b ws : List ℕ) (at : ℕ) where
   pub own-report : reportWith old (share b) s ≡ reportOf cs b s
   own-report = go (same-or-not (refusalOf s) goesOn) (same-or-not (refusalOf s) badAddress)
     where
-      go : (refusalOf s ≡ goesOn) ⊎ (refusalOf s ≡ goesOn → ⊥) → (refusalOf s ≡ badAddress) ⊎ (refusalOf s ≡ badAddress → ⊥)
+      go : (refusalOf s ≡ goesOn) ⊎ (refusalOf s ≡ goesOn → ⊥) → (refusalOf s ≡ badAddress) ⊎ (refusalOf s
+          ≡ badAddress → ⊥)
           → reportWith old (share b) s ≡ reportWith (chainAt (chainOf s) cs) (share b) s
       go (inl e) f = ap (λ (c : Chain). reportWith c (share b) s) (own-chain (inl e))
       go (inr n) (inl e) = ap (λ (c : Chain). reportWith c (share b) s) (own-chain (inr e))
@@ -70,7 +73,8 @@ module _ (cs : List Chain) (b ws : List ℕ) (at : ℕ) where
   own-chains = go (same-or-not (refusalOf s) goesOn)
     where
       go : (refusalOf s ≡ goesOn) ⊎ (refusalOf s ≡ goesOn → ⊥)
-          → set cs slot (chainWith old (share b) s) ≡ set cs (chainOf s) (chainWith (chainAt (chainOf s) cs) (share b) s)
+          → set cs slot (chainWith old (share b) s) ≡ set cs (chainOf s) (chainWith (chainAt (chainOf s) cs) (share b)
+          s)
       go (inl e) = ap (λ (k : ℕ). set cs k (chainWith (getD cs k fresh) (share b) s)) (own-slot (inl e))
       go (inr n) =
           ap (set cs slot) (chain-same old (share b) s n) ∙ set-getD cs slot fresh ∙ sym (chains-same cs b s n)
@@ -78,7 +82,8 @@ module _ (cs : List Chain) (b ws : List ℕ) (at : ℕ) where
   pub own-buffer : bufferWith old b s ≡ bufferOf cs b s
   own-buffer = go (same-or-not (refusalOf s) goesOn)
     where
-      go : (refusalOf s ≡ goesOn) ⊎ (refusalOf s ≡ goesOn → ⊥) → bufferWith old b s ≡ bufferWith (chainAt (chainOf s) cs) b s
+      go : (refusalOf s ≡ goesOn) ⊎ (refusalOf s ≡ goesOn → ⊥) → bufferWith old b s
+          ≡ bufferWith (chainAt (chainOf s) cs) b s
       go (inl e) = ap (λ (c : Chain). bufferWith c b s) (own-chain (inl e))
       go (inr n) = buffer-same old b s n ∙ sym (buffer-same (chainAt (chainOf s) cs) b s n)
 
@@ -106,7 +111,8 @@ module _ (cs : List Chain) (b ws : List ℕ) (at : ℕ) (full : length cs ≡ wh
   buffer-long = ap length (sym slot-buffer) ∙ buffer-length (old cs b ws at) b r
 
   -- a chain that stays is as it was
-  pub slot-stays : not (eqb (refusalOf r) goesOn) ≡ true → set cs (slot cs b ws at) (old cs b ws at) ≡ chainsAfter cs b r
+  pub slot-stays : not (eqb (refusalOf r) goesOn) ≡ true → set cs (slot cs b ws at) (old cs b ws at)
+      ≡ chainsAfter cs b r
   slot-stays e = ap (set cs (slot cs b ws at)) (sym (chain-same (old cs b ws at) (share b) r (λ f. no f))) ∙ slot-chains
     where
       no : refusalOf r ≡ goesOn → ⊥
@@ -130,7 +136,8 @@ module _ (cs : List Chain) (b ws : List ℕ) (at : ℕ) (full : length cs ≡ wh
           ≡ (not (eqb ((old cs b ws at) .packets) 0) && drops (collectedOf cs b r .answer))
       go (inl e) =
           let k : collectedOf cs b r .chain ≡ (slot cs b ws at) =
-          ap (λ (z : Collected). z .chain) (whole-report cs b r full ∙ report-piece (chainAt (chainOf r) cs) (share b) r e)
+          ap (λ (z : Collected). z .chain) (whole-report cs b r full ∙ report-piece (chainAt (chainOf r) cs) (share b)
+          r e)
           ∙ sym (own-slot cs b ws at (inl e)) in
           rw (k, lt-ltb (slot cs b ws at) noChain (slot-low (getD ws at 0)))
       go (inr n) =
@@ -139,6 +146,7 @@ module _ (cs : List Chain) (b ws : List ℕ) (at : ℕ) (full : length cs ≡ wh
           ∙ ap drops (answer-other (chainAt (chainOf r) cs) (share b) r n) ∙ calm n in
           rw (d, and-false (openAt cs (collectedOf cs b r .chain)), and-false (not (eqb ((old cs b ws at) .packets) 0)))
 
-  pub slot-progress : progressAfter (old cs b ws at) at (length ws) (reportWith (old cs b ws at) (share b) r) ≡ progressOf cs b ws at
+  pub slot-progress : progressAfter (old cs b ws at) at (length ws) (reportWith (old cs b ws at) (share b) r)
+      ≡ progressOf cs b ws at
   unfolding progressAfter progressOf
   slot-progress = rw (slot-report, same-open)

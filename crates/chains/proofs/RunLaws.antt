@@ -20,7 +20,8 @@ use Rattle.chains.specs.declared.Chain.{Chain}
 use Rattle.chains.specs.declared.Collected.{Collected}
 use Rattle.chains.specs.declared.Progress.{Progress}
 use Rattle.chains.specs.Step.{fresh, partOf, stepOf}
-use Rattle.chains.specs.Collect.{beside, bufferAfter, bufferOf, bufferWith, chainAt, chainWith, chainsAfter, chainsOf}
+use Rattle.chains.specs.Collect.{beside, bufferAfter, bufferOf, bufferWith, chainAt, chainWith, chainsAfter}
+use Rattle.chains.specs.Collect.{chainsOf}
 use Rattle.chains.specs.Collect.{collected, collectedOf, keptOpen, partAt, refusalOf, reportOf, reportWith, share}
 use Rattle.chains.specs.Collect.{sorted, unlisted, wholeList, withPart}
 use Rattle.chains.specs.Run.{Ran, behind, drops, further, openAt, runOf, runOver, stops}
@@ -54,7 +55,8 @@ module _ (c : Chain) (w : ℕ) (s : List ℕ) where
       (withPart (chainBy (first p)) (partOf c (partAt (chainBy (first p)) b) (pieceIn p)) b) b) (packet-near w s)
 
 module _ (cs : List Chain) (b : List ℕ) (w : ℕ) (s : List ℕ) where
-  same-chain : chainAt (chainBy (first (packet (take (size w) (w ∷ s))))) cs ≡ chainAt (chainBy (first (packet (w ∷ s)))) cs
+  same-chain : chainAt (chainBy (first (packet (take (size w) (w ∷ s))))) cs
+      ≡ chainAt (chainBy (first (packet (w ∷ s)))) cs
   same-chain = ap (λ (p : List ℕ). chainAt (chainBy (first p)) cs) (packet-near w s)
 
   call-near : (collectedOf cs b (take (size w) (w ∷ s)) ≡ collectedOf cs b (w ∷ s))
@@ -112,7 +114,8 @@ module _ (cs₀ : List Chain) (b₀ ws : List ℕ) where
       go true h = (full, e, ltb-true at (length ws) h)
       go false h =
           let z : at + 0 ≡ at = omega arith in
-          sym (e ∙ ap (λ (ps : List (List ℕ)). behind at (runOver cs b ps)) (cut-end ws at (ltb-false at (length ws) h)) ∙ rw z)
+          sym (e ∙ ap (λ (ps : List (List ℕ)). behind at (runOver cs b ps)) (cut-end ws at (ltb-false at (length ws)
+          h)) ∙ rw z)
 
   none-before : (r : Ran) → r ≡ behind 0 r
   none-before r = let z : 0 + r .report .read ≡ r .report .read = omega arith in rw z
@@ -153,9 +156,11 @@ module _ (cs₀ : List Chain) (b₀ ws : List ℕ) where
         some e z =
             let f = neither-left (eqb (r .answer) cutPacket) (openAt cs (r .chain) && drops (r .answer))
             (neither-right (eqb (r .answer) sent) _ e) in
-            eqb-false (r .answer) cutPacket f (ap (λ (x : Collected). x .answer) (told ∙ report-cut _ (share b) (drop at ws) z))
+            eqb-false (r .answer) cutPacket f (ap (λ (x : Collected). x .answer) (told
+            ∙ report-cut _ (share b) (drop at ws) z))
 
-        go : (t : Bool) → stops cs r ≡ t → Stands (after t .more) (after t) (chainsAfter cs b (drop at ws)) (bufferAfter cs b (drop at ws))
+        go : (t : Bool) → stops cs r ≡ t → Stands (after t .more) (after t) (chainsAfter cs b (drop at ws))
+            (bufferAfter cs b (drop at ws))
             × (after t .more ≡ true → (at < after t .report .read) × (after t .report .read ≤ length ws))
         go true e = (sym (st .1 ∙ ap (behind at) (run-at cs b ws at (st .2) ∙ rw e)), λ q. not-both q)
         go false e =
@@ -164,7 +169,8 @@ module _ (cs₀ : List Chain) (b₀ ws : List ℕ) where
             ap (λ (x : Collected). x .read) told ∙ reads _ (share b) (drop at ws) ∙ words-of ws at w in
             let n : at + size (getD ws at 0) ≡ at + r .read = omega (arith, k) in
             let f = st .1 ∙ ap (behind at) (run-at cs b ws at (st .2) ∙ rw e) ∙ behind-behind at (r .read) _
-            ∙ ap (λ (m : ℕ). behind (at + r .read) (runOver (chainsAfter cs b (drop at ws)) (bufferAfter cs b (drop at ws)) (cut (drop m ws)))) n in (
+            ∙ ap (λ (m : ℕ). behind (at + r .read) (runOver (chainsAfter cs b (drop at ws)) (bufferAfter cs b (drop at
+            ws)) (cut (drop m ws)))) n in (
               going (chainsAfter cs b (drop at ws)) (bufferAfter cs b (drop at ws)) (at + r .read)
                   (chains-long cs b ws at (st .0) ∙ st .0) f,
               λ q. (omega (arith, k, size-range (getD ws at 0) .0), omega (arith, k, w .fits)),

@@ -1,5 +1,5 @@
--- A whole packet at a place of the words: its words are those from there on, and of a piece also its chain, its head and
--- its bytes. Assumes nothing.
+-- A whole packet at a place of the words: its words are those from there on, and of a piece also its chain, its head
+-- and its bytes. Assumes nothing.
 use Prim.Native.Nat.{ℕ, _+_, _-_, _<_, _≤_}
 use mathlib.Core.Path.{_≡_, refl, sym, ap, _∙_}
 use mathlib.Core.Bool.{Bool, true, false, cond, not, _&&_}
@@ -49,7 +49,8 @@ module _ (ws : List ℕ) (at : ℕ) where
     word-of k h = rw (w .is, getD-take, getD-drop)
 
     pub first-of : first (packet (drop at ws)) ≡ getD ws at 0
-    first-of = word-of 0 (omega (arith, size-range (getD ws at 0) .0)) ∙ ap (λ (i : ℕ). getD ws i 0) {x = at + 0} {y = at} (omega arith)
+    first-of = word-of 0 (omega (arith, size-range (getD ws at 0) .0)) ∙ ap (λ (i : ℕ). getD ws i 0) {x = at + 0} {y =
+        at} (omega arith)
 
 -- the sizes of the types that are asked
 pub size-two : (w : ℕ) → (messageType w ≡ exclusive) ⊎ (messageType w ≡ voice2) → size w ≡ 2
@@ -81,9 +82,11 @@ module _ (ws : List ℕ) (at : ℕ) (some : length (packet (drop at ws)) ≡ 0 �
   second-at : 2 ≤ size v → second p ≡ getD ws (at + 1) 0
   second-at h = word-of ws at there 1 (omega arith)
 
-  pub exclusive-at : messageType v ≡ exclusive → goodUnchanged v (getD ws (at + 1) 0) ≡ eqb (refusalOf (drop at ws)) goesOn
+  pub exclusive-at : messageType v ≡ exclusive → goodUnchanged v (getD ws (at + 1) 0)
+      ≡ eqb (refusalOf (drop at ws)) goesOn
   exclusive-at e =
-      rw (← first-of ws at there, ← second-at (omega (arith, size-two v (inl e)))) (asked-exclusive p some (typed exclusive e))
+      rw (← first-of ws at there, ← second-at (omega (arith, size-two v (inl e)))) (asked-exclusive p some (typed
+      exclusive e))
 
   pub flex-at : messageType v ≡ flex → not (strangeAddress v) ≡ eqb (refusalOf (drop at ws)) goesOn
   flex-at e = rw (← first-of ws at there) (asked-flex p some (typed flex e))

@@ -1,5 +1,5 @@
--- A call with one chain and a turn of a run, by the ways that their functions go: the packet is cut, its chain is asked,
--- or it is told without. Assumes nothing.
+-- A call with one chain and a turn of a run, by the ways that their functions go: the packet is cut, its chain is
+-- asked, or it is told without. Assumes nothing.
 use Prim.Native.Nat.{ℕ, _+_, _/_, _<_, _≤_}
 use mathlib.Core.Path.{_≡_, refl, sym, ap, _∙_}
 use mathlib.Core.Bool.{Bool, true, false, cond, not, _&&_, _||_}
@@ -29,7 +29,8 @@ use Rattle.chains.specs.declared.Collected.{Collected}
 use Rattle.chains.specs.declared.Progress.{Progress}
 use Rattle.chains.specs.declared.Turned.{Turned}
 use Rattle.chains.specs.Step.{Stepped, baseOf, finishes, partOf, stepOf, strays, verdict, verdictBy}
-use Rattle.chains.specs.Collect.{beside, bufferWith, chainOf, chainWith, collected, keptOpen, ofChain, partAt, pieceOf}
+use Rattle.chains.specs.Collect.{beside, bufferWith, chainOf, chainWith, collected, keptOpen, ofChain, partAt}
+use Rattle.chains.specs.Collect.{pieceOf}
 use Rattle.chains.specs.Collect.{refusalOf, reportWith, share, sortBy, sorted, withPart}
 use Rattle.chains.specs.Run.{drops, further}
 use Rattle.chains.specs.Turn.{bare, besides, calledWith, chainLeft, goingOn, halts, namedBy, onward, pieceAt}
@@ -80,7 +81,8 @@ module _ (c : Chain) (n : ℕ) (s : List ℕ) where
 
   module _ (good : eqb (screen neitherType p .answer) goesOn ≡ true) where
     strange-flex : strangeAddress (first p) ≡ true → messageType (first p) ≡ flex
-    strange-flex e = eqb-true (messageType (first p)) flex (and-left (eqb (messageType (first p)) flex) (leb 2 (addressOf (first p))) e)
+    strange-flex e = eqb-true (messageType (first p)) flex (and-left (eqb (messageType (first p)) flex) (leb 2
+        (addressOf (first p))) e)
 
     good-sort : sorted p ≡ answering (ofChain (chainBy (first p)) (strangeAddress (first p)))
     unfolding sortBy
@@ -155,7 +157,8 @@ module _ (c : Chain) (b ws : List ℕ) (at : ℕ) (asked : refusalOf (drop at ws
         ap (λ (x : Piece). stepOf c (share b) x) (piece-at ws at asked)
         ∙ step-is c (share b) (pieceAt ws at)
         ∙ ap (λ (v : ℕ). made v (chainLeft v c (pieceAt ws at))) (sym answers)
-        ∙ ap (made a) (sym (leaves ∙ ap (λ (x : Head). chainLeft a c (bare x)) same-head ∙ bare-left a c (pieceAt ws at)))
+        ∙ ap (made a) (sym (leaves ∙ ap (λ (x : Head). chainLeft a c (bare x)) same-head
+        ∙ bare-left a c (pieceAt ws at)))
 
     pub chain-asked : g ≡ chainWith c (share b) (drop at ws)
     chain-asked = sym (chain-piece c (share b) (drop at ws) asked ∙ ap (λ (s : Stepped). s .chain) stepped)

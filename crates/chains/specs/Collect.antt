@@ -1,6 +1,6 @@
--- One packet into the list of all 32 chains and the buffer (RULES 14; 02 M-106 "Exclusives and text in one piece"): what it
--- is answered with, and that it goes to its own chain and its own part. A call is given the words from the packet's first
--- on.
+-- One packet into the list of all 32 chains and the buffer (RULES 14; 02 M-106 "Exclusives and text in one piece"):
+-- what it is answered with, and that it goes to its own chain and its own part. A call is given the words from the
+-- packet's first on.
 use Prim.Native.Nat.{ℕ, _+_, _*_, _/_}
 use mathlib.Core.Bool.{Bool, cond}
 use mathlib.Core.List.{List, _++_}
@@ -50,7 +50,8 @@ partAt k b = take (share b) (drop (k * share b) b)
 abbrev pub withPart : ℕ → List ℕ → List ℕ → List ℕ
 withPart k part b = take (k * share b) b ++ (part ++ drop (k * share b + share b) b)
 
--- a piece into chain k, which is c, where a part has n bytes: the chain, where its bytes stand in the buffer and how many
+-- a piece into chain k, which is c, where a part has n bytes: the chain, where its bytes stand in the buffer and how
+-- many
 unfoldable pub collected : Chain → ℕ → ℕ → ℕ → Piece → Collected
 collected c n k read x =
     record {

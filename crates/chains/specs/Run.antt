@@ -1,5 +1,5 @@
--- A run of the collector (RULES 14.4; 02 M-106 "Exclusives and text in one piece"): one call after another over the packets
--- of the words, up to the first that finishes a message, drops an open chain or is cut.
+-- A run of the collector (RULES 14.6; 02 M-106 "Exclusives and text in one piece"): one call after another over the
+-- packets of the words, up to the first that finishes a message, drops an open chain or is cut.
 use Prim.Native.Nat.{ℕ, _+_}
 use mathlib.Core.Bool.{Bool, cond, not, _&&_, _||_}
 use mathlib.Core.List.{List, [], _∷_}

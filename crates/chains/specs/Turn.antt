@@ -1,5 +1,5 @@
--- What the functions promise that see one chain by value, beside the definitions of a call and a run: a piece by its head
--- and by the words from a place on, a call with one chain, and a turn of a run.
+-- What the functions promise that see one chain by value, beside the definitions of a call and a run: a piece by its
+-- head and by the words from a place on, a call with one chain, and a turn of a run.
 use Prim.Native.Nat.{ℕ, _+_, _*_, _≤_}
 use mathlib.Core.Path.{_≡_}
 use mathlib.Core.Bool.{Bool, true, false, cond, not, _&&_, _||_}
@@ -17,7 +17,8 @@ use Rattle.chains.specs.declared.Called.{Called}
 use Rattle.chains.specs.declared.Progress.{Progress}
 use Rattle.chains.specs.declared.Turned.{Turned}
 use Rattle.chains.specs.Step.{closed, grown, refusedBy, taken}
-use Rattle.chains.specs.Collect.{beside, chainWith, collectedOf, refusalOf, reportWith, share, unlisted, wholeList}
+use Rattle.chains.specs.Collect.{beside, chainWith, collectedOf, refusalOf, reportWith, share, unlisted}
+use Rattle.chains.specs.Collect.{wholeList}
 use Rattle.chains.specs.Run.{drops, further, stops}
 
 -- a head as a piece, for what does not ask its bytes

@@ -1,5 +1,5 @@
--- What one packet comes to, as the code says it and as the definition does; and that a step looks at its own packet alone,
--- goes on only with a whole one, and always has room for its line. Assumes nothing.
+-- What one packet comes to, as the code says it and as the definition does; and that a step looks at its own packet
+-- alone, goes on only with a whole one, and always has room for its line. Assumes nothing.
 use Prim.Native.Nat.{ℕ, _+_, _-_, _≤_}
 use mathlib.Core.Path.{_≡_, refl, sym, ap, _∙_, subst}
 use mathlib.Core.Bool.{true, false, cond}
@@ -50,10 +50,12 @@ rest-part i l = take-all (length l - i) (drop i l) (omega (arith, length-drop i 
 pub stands : (cs : List Chain) (b s : List ℕ) (r : Collected) → r ≡ reportOf cs b s → r .answer ≡ sent
     → r .start + r .length ≤ length b
 stands cs b s r e =
-    subst (λ (x : Collected). x .answer ≡ sent → x .start + x .length ≤ length b) (sym e) (stands-within (chainAt (chainOf s) cs) b s)
+    subst (λ (x : Collected). x .answer ≡ sent → x .start + x .length ≤ length b) (sym e) (stands-within (chainAt
+    (chainOf s) cs) b s)
 
 pub few-read : (cs : List Chain) (b s : List ℕ) (r : Collected) → r ≡ reportOf cs b s → r .read ≤ length s
-few-read cs b s r e = subst (λ (x : Collected). x .read ≤ length s) (sym e) (reads-within (chainAt (chainOf s) cs) (share b) s)
+few-read cs b s r e = subst (λ (x : Collected). x .read ≤ length s) (sym e) (reads-within (chainAt (chainOf s) cs)
+    (share b) s)
 
 -- ---- the step
 
@@ -88,7 +90,8 @@ none-inside t w s e =
 
 pub gather-inside : (t : ℕ × Held) (w : ℕ) (s : List ℕ) → Inside (w ∷ s) (gather t (w ∷ s))
 gather-inside t w s =
-    ⊎-elim (none-inside t w s) (λ h. whole-inside w s (gather t (w ∷ s)) (ap length (h .0) ∙ length-take-le (size w) (w ∷ s) (h .1)) (h .1))
+    ⊎-elim (none-inside t w s) (λ h. whole-inside w s (gather t (w ∷ s)) (ap length (h .0)
+    ∙ length-take-le (size w) (w ∷ s) (h .1)) (h .1))
     (packet-size w s)
 
 -- what a step sends has room, and it takes that much of it
@@ -135,7 +138,8 @@ module _ (h : Held) (s text : List ℕ) (d : Done) where
   abbrev pub At : Done → Held → List ℕ → Type 0
   At done h′ text′ =
       let c = gather (free, h) s in
-      (done ≡ gatheredAfter d (packet s) c) × (h′ ≡ leftOf (free, h) c .1) × (text′ ≡ written (d .written) (sentOf c) text)
+      (done ≡ gatheredAfter d (packet s) c) × (h′ ≡ leftOf (free, h) c .1) × (text′
+      ≡ written (d .written) (sentOf c) text)
 
   pub at-full : ltb free (longest (length (h .buffer))) ≡ true → At (counting noRoom (d .read) (d .written)) h text
   unfolding gather
@@ -147,7 +151,8 @@ module _ (h : Held) (s text : List ℕ) (d : Done) where
   unfolding gather
   at-cut r b′ er eb e z =
       let k : length (packet s) ≡ 0 =
-      sym (reads (chainAt (chainOf s) (h .chains)) (share (h .buffer)) s) ∙ sym (ap (λ (x : Collected). x .read) er) ∙ z in
+      sym (reads (chainAt (chainOf s) (h .chains)) (share (h .buffer)) s)
+      ∙ sym (ap (λ (x : Collected). x .read) er) ∙ z in
       rw (e, eq-eqb (length (packet s)) 0 k) (
         rw (add-zero (d .read), add-zero (d .written)),
         ap (λ (b : List ℕ). held (h .chains) (h .counts) b) (eb ∙ cut-kept (h .chains) (h .buffer) s k),
@@ -155,7 +160,8 @@ module _ (h : Held) (s text : List ℕ) (d : Done) where
       )
 
   -- the line of the call that was made
-  pub at-one : (r : Collected) (cs′ : List Chain) (b′ counts′ text′ : List ℕ) (end : ℕ) (done : Done) → r ≡ collectedAt h s
+  pub at-one : (r : Collected) (cs′ : List Chain) (b′ counts′ text′ : List ℕ) (end : ℕ) (done : Done)
+      → r ≡ collectedAt h s
       → cs′ ≡ chainsOf (h .chains) (h .buffer) s
       → b′ ≡ bufferOf (h .chains) (h .buffer) s → ltb free (longest (length (h .buffer))) ≡ false
       → (r .read ≡ 0 → ⊥)

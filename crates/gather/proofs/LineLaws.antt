@@ -1,5 +1,5 @@
--- A line is never longer than the room that is asked for: a finished chain has no more bytes than its part, the head of a
--- line has at most twelve, and the answers that drop have two digits. Assumes nothing.
+-- A line is never longer than the room that is asked for: a finished chain has no more bytes than its part, the head of
+-- a line has at most twelve, and the answers that drop have two digits. Assumes nothing.
 use Prim.Native.Nat.{ℕ, _≤_, _<_}
 use mathlib.Core.Path.{_≡_, sym, _∙_}
 use mathlib.Core.Bool.{true, false, _&&_}

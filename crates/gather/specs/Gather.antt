@@ -48,7 +48,8 @@ lineAt h s = lineAfter (h .chains) (collectedAt h s) (bufferOf (h .chains) (h .b
 abbrev pub heldAfter : Held → List ℕ → Held
 heldAfter h s =
     let r = collectedAt h s in
-    held (chainsOf (h .chains) (h .buffer) s) (counted (h .counts) (sortOf (r .answer) (r .place))) (bufferOf (h .chains) (h .buffer) s)
+    held (chainsOf (h .chains) (h .buffer) s) (counted (h .counts) (sortOf (r .answer) (r .place))) (bufferOf (h
+    .chains) (h .buffer) s)
 
 -- the bytes that no line is longer than: three for each byte of a part, and those of a head, an answer and the end
 abbrev pub longest : ℕ → ℕ

@@ -26,15 +26,21 @@ aside-spec =
     omega (arith, whole-at ws 0 some .inside))
     (λ c κs. search needs)
     (λ c κs. search needs)
-    (λ c κs. let q = c .before .before .before .before .before .before .before .pre in (rw (c .slot-of .ensures) (slot-low _), q .3))
+    (λ c κs. let q = c .before .before .before .before .before .before .before .pre in (
+      rw (c .slot-of .ensures)
+          (slot-low _),
+      q .3,
+    ))
     (λ c. let a = c .before .before .before .before .before .before .before .before .args in
     let q = c .before .before .before .before .before .before .before .before .pre in
     let ws = now (a .words) in
     let some : length (packet ws) ≡ 0 → ⊥ = λ z. q .1 (q .0 ∙ z) in
     let w = first-of ws 0 (whole-at ws 0 some) in
-    let g = sym (c .before .before .before .before .before .before .is-good .ensures) ∙ c .before .before .before .before .before .if1 .taken in
+    let g = sym (c .before .before .before .before .before .before .is-good .ensures)
+    ∙ c .before .before .before .before .before .if1 .taken in
     let t : strangeAddress (first (packet ws)) ≡ true =
-    ap strangeAddress w ∙ sym (c .before .before .before .has-strange-address .ensures) ∙ c .before .before .if2 .taken in
+    ap strangeAddress w ∙ sym (c .before .before .before .has-strange-address .ensures)
+    ∙ c .before .before .if2 .taken in
     c .named .ensures ∙ rw (q .0, c .before .slot-of .ensures, ← w) (report-strange (a .c) (a .part) ws g t))
     (λ c κs. search needs)
     (λ c. let a = c .before .before .before .before .before .before .before .args in
@@ -42,7 +48,8 @@ aside-spec =
     let ws = now (a .words) in
     let some : length (packet ws) ≡ 0 → ⊥ = λ z. q .1 (q .0 ∙ z) in
     let w = first-of ws 0 (whole-at ws 0 some) in
-    let g = sym (c .before .before .before .before .before .is-good .ensures) ∙ c .before .before .before .before .if1 .taken in
+    let g = sym (c .before .before .before .before .before .is-good .ensures)
+    ∙ c .before .before .before .before .if1 .taken in
     let t : strangeAddress (first (packet ws)) ≡ false =
     ap strangeAddress w ∙ sym (c .before .before .has-strange-address .ensures) ∙ c .before .if2 .left in
     c .beside .ensures ∙ rw (q .0) (report-no-chain (a .c) (a .part) ws g t (q .2)))

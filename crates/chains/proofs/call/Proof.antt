@@ -37,32 +37,43 @@ call-spec =
     (λ c κs. search needs)
     (λ c. let a = c .before .before .before .before .before .before .before .args in
     let ws = now (a .words) in
-    let e = eqb-true (refusalOf (drop 0 ws)) goesOn (sym (c .before .before .is-asked .ensures) ∙ c .before .if2 .taken) in
+    let e = eqb-true (refusalOf (drop 0 ws)) goesOn (sym (c .before .before .is-asked .ensures)
+    ∙ c .before .if2 .taken) in
     omega (arith, whole-at ws 0 (piece-some (drop 0 ws) e) .inside))
     (λ c κs. search needs)
     (λ c κs. let a = c .before .before .before .before .before .before .before .before .before .args in
     let ws = now (a .words) in
-    let e = eqb-true (refusalOf (drop 0 ws)) goesOn (sym (c .before .before .before .before .is-asked .ensures) ∙ c .before .before .before .if2 .taken) in
+    let e = eqb-true (refusalOf (drop 0 ws)) goesOn (sym (c .before .before .before .before .is-asked .ensures)
+    ∙ c .before .before .before .if2 .taken) in
     (rw (c .before .slot-of .ensures) (slot-low _), standing ws 0 e))
     (λ c κs. search needs)
-    (λ c κs. let a = c .before .before .before .before .before .before .before .before .before .before .before .before .before .args in
+    (λ c κs. let a = c .before .before .before .before .before .before .before .before .before .before .before .before
+    .before .args in
     let ws = now (a .words) in
-    let e = eqb-true (refusalOf (drop 0 ws)) goesOn (sym (c .before .before .before .before .before .before .before .before .is-asked .ensures) ∙ c .before .before .before .before .before .before .before .if2 .taken) in
-    fits-left (a .c) (now (a .buffer)) ws 0 e _ (c .before .before .before .take .ensures .0) _ (c .head-of .ensures) (omega arith))
+    let e = eqb-true (refusalOf (drop 0 ws)) goesOn (sym (c .before .before .before .before .before .before .before
+    .before .is-asked .ensures) ∙ c .before .before .before .before .before .before .before .if2 .taken) in
+    fits-left (a .c) (now (a .buffer)) ws 0 e _ (c .before .before .before .take .ensures .0) _ (c .head-of .ensures)
+    (omega arith))
     (λ c κs. (rw (c .before .before .before .before .before .before .slot-of .ensures) (slot-low _), omega arith))
     (λ c. search needs)
-    (λ c. let a = c .before .before .before .before .before .before .before .before .before .before .before .before .before .before .before .args in
+    (λ c. let a = c .before .before .before .before .before .before .before .before .before .before .before .before
+    .before .before .before .args in
     let ws = now (a .words) in
     let b = now (a .buffer) in
-    let e = eqb-true (refusalOf ws) goesOn (sym (c .before .before .before .before .before .before .before .before .before .before .is-asked .ensures) ∙ c .before .before .before .before .before .before .before .before .before .if2 .taken) in
+    let e = eqb-true (refusalOf ws) goesOn (sym (c .before .before .before .before .before .before .before .before
+    .before .before .is-asked .ensures) ∙ c .before .before .before .before .before .before .before .before
+    .before .if2 .taken) in
     let t = c .before .before .before .before .before .take in
     let k = c .before .before .before .before .before .before .before .slot-of .ensures in
     let m = t .ensures .1 ∙ buffer-asked (a .c) b ws 0 _ e k in
     let l = ap length m ∙ buffer-length (a .c) b ws in
     let g = c .before .before .head-of .ensures in
-    let n = c .before .before .before .before .before .before .before .before .before .before .before .before .whole-size .ensures in
+    let n = c .before .before .before .before .before .before .before .before .before .before .before .before
+    .whole-size .ensures in
     let r = c .named .ensures
-    ∙ ap (λ (x : ℕ). namedBy (t .result) (c .before .before .before .before .before .before .before .before .before .before .before .before .whole-size .result) (c .before .before .before .before .before .before .before .slot-of .result) (x / 32) (c .before .after .result)) l
+    ∙ ap (λ (x : ℕ). namedBy (t .result) (c .before .before .before .before .before .before .before .before .before
+    .before .before .before .whole-size .result) (c .before .before .before .before .before .before .before
+    .slot-of .result) (x / 32) (c .before .after .result)) l
     ∙ report-asked (a .c) b ws 0 e _ (t .ensures .0) _ g _ (c .before .after .ensures) _ _ n k in (
       called-is (a .c) b ws _ _ r
           (chain-asked (a .c) b ws 0 e _ (t .ensures .0) _ g _ (c .before .after .ensures)),

@@ -42,7 +42,8 @@ roomy k = sym (k .before .before .before .before .is-full .ensures) ∙ k .befor
 returns : tie.Need-returns
 returns c =
     let s = c .before .before .before .before .before .before in
-    let z = at-full (before s) (rest s) (now (s .args .text)) (s .args .past) (sym (c .before .before .is-full .ensures) ∙ c .before .if1 .taken) in
+    let z = at-full (before s) (rest s) (now (s .args .text)) (s .args .past) (sym (c .before .before .is-full
+    .ensures) ∙ c .before .if1 .taken) in
     (c .report .ensures ∙ z .0, (z .1, z .2))
 
 returns-2 : tie.Need-returns-2
@@ -50,7 +51,8 @@ returns-2 c =
     let k = c .before .before .before .before .before .before in
     let s = start k in
     let e = called k in
-    let z = at-cut (before s) (rest s) (now (s .args .text)) (s .args .past) _ _ (e .0) (e .1 .1) (roomy k) (c .before .if2 .taken) in
+    let z = at-cut (before s) (rest s) (now (s .args .text)) (s .args .past) _ _ (e .0) (e .1 .1) (roomy k) (c .before
+    .if2 .taken) in
     (c .report2 .ensures ∙ z .0, (z .1, z .2))
 
 put-line-requires : tie.Need-put-line-requires
@@ -65,7 +67,8 @@ put-line-requires c κs =
 
 add-report : tie.Need-add-report
 add-report c =
-    let k = c .before .before .before .before .before .before .before .before .before .before .before .before .before .before in
+    let k = c .before .before .before .before .before .before .before .before .before .before .before .before .before
+    .before in
     let s = start k in
     let a = s .args in
     record {
@@ -79,11 +82,14 @@ add-report c =
 
 returns-3 : tie.Need-returns-3
 returns-3 c =
-    let k = c .before .before .before .before .before .before .before .before .before .before .before .before .before .before .before in
+    let k = c .before .before .before .before .before .before .before .before .before .before .before .before .before
+    .before .before in
     let s = start k in
     let e = called k in
-    let m = c .before .before .one-more .ensures ∙ ap (counted (s .args .counts)) (c .before .before .before .sort-of .ensures) in
-    let z = at-one (before s) (rest s) (now (s .args .text)) (s .args .past) _ _ _ _ _ _ _ (e .0) (e .1 .0) (e .1 .1) (roomy k) (c .before .before .before .before .before .before .before .before .before .before .if2 .left)
+    let m = c .before .before .one-more .ensures ∙ ap (counted (s .args .counts)) (c .before .before .before .sort-of
+    .ensures) in
+    let z = at-one (before s) (rest s) (now (s .args .text)) (s .args .past) _ _ _ _ _ _ _ (e .0) (e .1 .0) (e .1 .1)
+    (roomy k) (c .before .before .before .before .before .before .before .before .before .before .if2 .left)
     (c .before .before .before .before .before .before .before .put-line .ensures) m (c .report3 .ensures) in
     (z .0, (z .1, z .2))
 

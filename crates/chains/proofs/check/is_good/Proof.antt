@@ -37,14 +37,16 @@ is-good-spec =
     (λ c. let a = c .before .before .before .before .before .before .before .before .args in
     let q = c .before .before .before .before .before .before .before .before .pre in
     let some : length (packet (now (a .words))) ≡ 0 → ⊥ = λ z. q .1 (q .0 ∙ z) in
-    let e = sym (c .before .before .before .before .before .message-type .ensures) ∙ c .before .before .before .if2 .taken in
+    let e = sym (c .before .before .before .before .before .message-type .ensures)
+    ∙ c .before .before .before .if2 .taken in
     rw (c .bad-place .ensures, c .before .before .is-good-status .ensures) (voice2-at (now (a .words)) 0 some e))
     (λ c κs. search needs)
     (λ c. let a = c .before .before .before .before .before .before .before .args in
     let q = c .before .before .before .before .before .before .before .pre in
     let some : length (packet (now (a .words))) ≡ 0 → ⊥ = λ z. q .1 (q .0 ∙ z) in
     let m = c .before .before .before .before .message-type .ensures in
-    c .is-good-unchanged .ensures ∙ single-at (now (a .words)) 0 some (λ e. c .before .before .before .if1 .left (m ∙ e))
+    c .is-good-unchanged .ensures ∙ single-at (now (a .words)) 0 some (λ e. c .before .before .before .if1 .left (m ∙
+    e))
     (λ e. c .before .before .if2 .left (m ∙ e)) (omega (arith, q .0)))
     (λ c. let a = c .before .before .before .before .before .before .before .args in
     let q = c .before .before .before .before .before .before .before .pre in
@@ -56,5 +58,6 @@ is-good-spec =
     let q = c .before .before .before .before .before .before .before .before .pre in
     let some : length (packet (now (a .words))) ≡ 0 → ⊥ = λ z. q .1 (q .0 ∙ z) in
     let m = c .before .before .before .before .before .message-type .ensures in
-    c .is-good-unchanged2 .ensures ∙ double-at (now (a .words)) 0 some (λ e. c .before .before .before .before .if1 .left (m ∙ e))
+    c .is-good-unchanged2 .ensures ∙ double-at (now (a .words)) 0 some (λ e. c .before .before .before .before .if1
+    .left (m ∙ e))
     (λ e. c .before .before .before .if2 .left (m ∙ e)) (omega (arith, q .0))))

@@ -24,9 +24,12 @@ put-flex-spec =
     (λ c. search needs)
     (λ c κs. search needs)
     (λ c. search needs)
-    (λ c. let a = c .before .before .before .before .before .before .before .before .before .before .before .before .before .before .before .before .before .args in
+    (λ c. let a = c .before .before .before .before .before .before .before .before .before .before .before .before
+    .before .before .before .before .before .args in
     rw (
       c .before .before .put-word3 .ensures,
       c .before .before .before .before .before .before .before .put-word2 .ensures,
-      c .before .before .before .before .before .before .before .before .before .before .before .before .put-word .ensures,
-    ) (twelve (now (a .part)) (a .base) _ _ _ _ _ _ _ _ _ _ _ _ (c .before .before .before .before .before .before .before .before .before .before .before .before .before .before .before .before .before .pre .0))))
+      c .before .before .before .before .before .before .before .before .before .before .before .before .put-word
+          .ensures,
+    ) (twelve (now (a .part)) (a .base) _ _ _ _ _ _ _ _ _ _ _ _ (c .before .before .before .before .before .before
+    .before .before .before .before .before .before .before .before .before .before .before .pre .0))))

@@ -34,4 +34,5 @@ put-six-spec =
       c .before .before .put-word .ensures,
       c .before .before .before .before .before .byte4 .ensures,
       c .before .before .before .before .before .before .before .byte3 .ensures,
-    ) (six (now (a .part)) (a .base) _ _ _ _ _ _ [] (c .before .before .before .before .before .before .before .before .before .before .before .pre .0))))
+    ) (six (now (a .part)) (a .base) _ _ _ _ _ _ [] (c .before .before .before .before .before .before .before .before
+    .before .before .before .pre .0))))

@@ -17,7 +17,8 @@ pub put-some-spec : {M : Type 1} → statement M
 put-some-spec =
     tie.close
     (tie.spec
-    (λ c. rw (c .if1 .taken) (paste-zero (now (c .before .before .args .part)) (c .before .before .args .base) (exclusiveBytes (c .before .before .args .w) (c .before .before .args .v))))
+    (λ c. rw (c .if1 .taken) (paste-zero (now (c .before .before .args .part)) (c .before .before .args .base)
+    (exclusiveBytes (c .before .before .args .w) (c .before .before .args .v))))
     (λ c κs. search needs)
     (λ c. search needs)
     (λ c. search needs)
@@ -64,7 +65,8 @@ put-some-spec =
       c .before .before .before .byte1 .ensures,
       c .before .before .before .before .before .byte4 .ensures,
       c .before .before .before .before .before .before .before .byte3 .ensures,
-    ) (sets-eq (byte3 (a .w) ∷ byte4 (a .w) ∷ byte1 (a .v) ∷ byte2 (a .v) ∷ []) (now (a .part)) (a .base) (omega arith)))
+    ) (sets-eq (byte3 (a .w) ∷ byte4 (a .w) ∷ byte1 (a .v) ∷ byte2 (a .v) ∷ []) (now (a .part)) (a .base) (omega
+    arith)))
     (λ c κs. search needs)
     (λ c. search needs)
     (λ c. simp length-set (omega arith))
@@ -82,4 +84,5 @@ put-some-spec =
       c .before .before .before .before .byte1 .ensures,
       c .before .before .before .before .before .before .byte4 .ensures,
       c .before .before .before .before .before .before .before .before .byte3 .ensures,
-    ) (sets-eq (byte3 (a .w) ∷ byte4 (a .w) ∷ byte1 (a .v) ∷ byte2 (a .v) ∷ byte3 (a .v) ∷ []) (now (a .part)) (a .base) (omega arith))))
+    ) (sets-eq (byte3 (a .w) ∷ byte4 (a .w) ∷ byte1 (a .v) ∷ byte2 (a .v) ∷ byte3 (a .v) ∷ []) (now (a .part)) (a
+    .base) (omega arith))))

@@ -30,7 +30,12 @@ answered : (c : tie.After-verdict) → c .verdict .result
 answered c =
     let a = start c .args in
     let n = length (now (a .part)) in
-    simp (c .before .is-last .ensures, c .before .before .is-stray .ensures, c .before .before .before .base-of .ensures)
+    simp (
+      c .before .is-last .ensures,
+      c .before .before .is-stray .ensures,
+      c .before .before .before .base-of
+          .ensures,
+    )
     at (c .verdict .ensures)
     ∙ ap (λ (h : Head). verdict (a .c) n (bare h)) (head-is c)
     ∙ bare-verdict (a .c) n (pieceAt (now (a .words)) (a .at))
