@@ -110,19 +110,14 @@ typedef struct {
     uint32_t packets; /* 0 while none is open; an open exclusive has 1 */
 } quernbrae_chain;
 
+/* What the collector reports of a packet (14.3), or of a run (14.6). */
 typedef struct {
-    quernbrae_chain all[QUERNBRAE_CHAINS];
-} quernbrae_chains;
-
-/* What the collector reports of a packet (14.3). */
-typedef struct {
-    uint32_t answer; /* 3, 4, 6, 7, 17, 15, 16, 18, 1 or 0 */
+    uint32_t answer; /* 10, 3, 4, 6, 7, 17, 15, 16, 18, 1 or 0 */
     uint32_t place;  /* after answer 7 that of the first bad field, from 1 (2.4); else 0 */
     size_t read;     /* words read */
     size_t chain;    /* the packet's chain, or QUERNBRAE_NO_CHAIN */
     size_t start;    /* where the part of that chain begins in the buffer */
     size_t length;   /* the bytes that the chain has after the packet: after answer 0 the whole message */
-    quernbrae_chains chains; /* hand these on to the next call */
 } quernbrae_collected;
 
 /* The empty record: no key down, kind none, all five numbers missing, no mark. Fill a table with it before the first
@@ -279,14 +274,24 @@ quernbrae_done quernbrae_run_export(uint8_t group,
                                     const uint32_t *words, size_t words_len,
                                     uint8_t *out, size_t out_len);
 
-/* The chains before the first packet: none is open. */
-quernbrae_chains quernbrae_chains_closed(void);
+/* A chain before its first packet: none is open. Fill a list of QUERNBRAE_CHAINS with it before the first call. */
+quernbrae_chain quernbrae_chain_closed(void);
 
 /* Collects whole messages (docs/RULES.md, 14): the packet at the start of the words goes into its chain, whose bytes
  * stand in its own part of the buffer, one of 32 of equal length. Answer 0 says that a message is whole: its bytes are
- * the length ones from start on, until the next packet of that chain. */
-quernbrae_collected quernbrae_collect(quernbrae_chains chains, uint8_t *buffer, size_t buffer_len,
+ * the length ones from start on, until the next packet of that chain. Gives 10 where the list is not 32 chains, first
+ * of all, then 3, 4, 6, 7 with the place, 1 for a packet of another type, 17, 15, 16, 18, 1 or 0. */
+quernbrae_collected quernbrae_collect(quernbrae_chain *chains, size_t chains_len,
+                                      uint8_t *buffer, size_t buffer_len,
                                       const uint32_t *words, size_t words_len);
+
+/* Call after call over the words, until a message is whole (0), an open chain is dropped (15, 16 or 18) or a packet is
+ * cut (3): the report is that of this packet, and `read` counts all words read, those of a cut packet not. Where the
+ * words end without, the answer is 1, and no chain is named; 10 first. Repeat it at words + read until it answers 1 or
+ * 3, and each message and each drop comes once (14.6). */
+quernbrae_collected quernbrae_run_collect(quernbrae_chain *chains, size_t chains_len,
+                                          uint8_t *buffer, size_t buffer_len,
+                                          const uint32_t *words, size_t words_len);
 
 /* The form of 16 bits of a maker identity, from its old form (docs/RULES.md, 13): one byte of 1 to 127, or 0 and two
  * bytes of at most 127. Any other bytes are answered 14. Gives 14 or 0. */

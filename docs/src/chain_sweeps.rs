@@ -10,23 +10,42 @@ mod pieces;
 use packets::{bad_packet, every_place, packet, Dice, Named};
 use pieces::{exclusive, flex, throw_piece};
 use reading::{
-    chains_closed, size, Chain, Chains, Collected, Identity, Maker, BAD_DATA, NO_CHAIN,
-    NO_COUNTERPART, SENT,
+    chains_closed, collector, run_collect, size, Chain, Chains, Collected, Identity, Maker,
+    BAD_DATA, CUT, NO_CHAIN, NO_COUNTERPART, SENT, TAKEN_IN,
 };
 
 #[link(name = "quernbrae", kind = "static")]
 extern "C" {
-    fn quernbrae_chains_closed() -> Chains;
+    fn quernbrae_chain_closed() -> Chain;
     fn quernbrae_collect(
-        chains: Chains,
+        chains: *mut Chain,
+        chains_len: usize,
         buffer: *mut u8,
         buffer_len: usize,
         words: *const u32,
         words_len: usize,
-    ) -> Collected;
+    ) -> collector::Collected;
+    fn quernbrae_run_collect(
+        chains: *mut Chain,
+        chains_len: usize,
+        buffer: *mut u8,
+        buffer_len: usize,
+        words: *const u32,
+        words_len: usize,
+    ) -> collector::Collected;
     fn quernbrae_identity_new(old: *const u8, old_len: usize) -> Identity;
     fn quernbrae_identity_old(number: u16) -> Maker;
 }
+
+/// One of the two calls.
+type Call = unsafe extern "C" fn(
+    *mut Chain,
+    usize,
+    *mut u8,
+    usize,
+    *const u32,
+    usize,
+) -> collector::Collected;
 
 const DEFAULT_CASES: usize = 2_000_000;
 
@@ -62,6 +81,8 @@ struct Comparison {
     length: usize,
     seen: [[usize; ANSWERS]; SORTS.len()],
     named: Named,
+    /// How often a run gave each answer.
+    ran: [usize; ANSWERS],
     /// Identities turned into a number and out of one, with a counterpart and without.
     turned: [[usize; 2]; 2],
 }
@@ -75,6 +96,7 @@ impl Comparison {
             length: 0,
             seen: [[0; ANSWERS]; SORTS.len()],
             named: Named::new(),
+            ran: [0; ANSWERS],
             turned: [[0; 2]; 2],
         }
     }
@@ -89,23 +111,94 @@ impl Comparison {
         self.reading.clone_from(&self.product);
     }
 
+    /// A call of the product, with the chains after it.
+    fn called(&mut self, call: Call, mut chains: Chains, words: &[u32]) -> Collected {
+        let buffer = self.product.as_mut_ptr();
+        let list = &mut chains.all;
+        // Behind the lent buffer there are guards, and the chains and the words are slices.
+        let done = unsafe {
+            call(
+                list.as_mut_ptr(),
+                list.len(),
+                buffer,
+                self.length,
+                words.as_ptr(),
+                words.len(),
+            )
+        };
+        Collected {
+            answer: done.answer,
+            place: done.place,
+            read: done.read,
+            chain: done.chain,
+            start: done.start,
+            length: done.length,
+            chains,
+        }
+    }
+
     /// Collects on both sides, and compares what they return and what stands in their buffers.
     fn collect(&mut self, chains: Chains, words: &[u32]) -> Chains {
-        let buffer = self.product.as_mut_ptr();
-        // Behind the lent buffer there are guards, and the words are a slice.
-        let done =
-            unsafe { quernbrae_collect(chains, buffer, self.length, words.as_ptr(), words.len()) };
+        let done = self.called(quernbrae_collect, chains, words);
         let expected = reading::collect(chains, &mut self.reading[..self.length], words);
         if done != expected || self.product != self.reading {
-            self.show_difference(chains, words, done, expected);
+            self.show_difference("collect", chains, words, done, expected);
         }
         self.count(chains, words, expected);
         expected.chains
     }
 
-    fn show_difference(&self, chains: Chains, words: &[u32], done: Collected, expected: Collected) {
+    /// Runs on both sides, again and again until the words end or a packet is cut.
+    fn runs(&mut self, mut chains: Chains, words: &[u32]) {
+        let mut place = 0;
+        loop {
+            let rest = &words[place..];
+            let done = self.called(quernbrae_run_collect, chains, rest);
+            let expected = run_collect(chains, &mut self.reading[..self.length], rest);
+            if done != expected || self.product != self.reading {
+                self.show_difference("run_collect", chains, rest, done, expected);
+            }
+            self.ran[expected.answer as usize] += 1;
+            if matches!(expected.answer, TAKEN_IN | CUT) {
+                return;
+            }
+            place += expected.read;
+            chains = expected.chains;
+        }
+    }
+
+    /// A list of another length is answered 10 first of all, and nothing changes.
+    fn every_list(&mut self) {
+        self.lend(32 * 12);
+        for length in (0..64).filter(|length| *length != 32) {
+            for call in [quernbrae_collect as Call, quernbrae_run_collect] {
+                let words = exclusive(&mut self.dice, 0, 0, 6);
+                let mut list = vec![chains_closed().all[0]; length];
+                let before = (list.clone(), self.product.clone());
+                for count in 0..3 {
+                    let (chains, buffer) = (list.as_mut_ptr(), self.product.as_mut_ptr());
+                    // The list, the buffer and the words are so long as is said.
+                    let done =
+                        unsafe { call(chains, length, buffer, self.length, words.as_ptr(), count) };
+                    let told = (done.answer, done.place, done.read, done.chain);
+                    assert_eq!(told, (10, 0, 0, NO_CHAIN), "{length} chains");
+                    assert_eq!((done.start, done.length), (0, 0), "{length} chains");
+                }
+                assert_eq!(before, (list, self.product.clone()), "{length} chains");
+            }
+        }
+    }
+
+    fn show_difference(
+        &self,
+        call: &str,
+        chains: Chains,
+        words: &[u32],
+        done: Collected,
+        expected: Collected,
+    ) {
         println!(
-            "DIFFERENCE in collect: buffer {}, words {words:08X?}",
+            "DIFFERENCE in {call}: buffer {}, words {words:08X?}",
             self.length
         );
         for chain in 0..32 {
@@ -282,8 +375,10 @@ impl Comparison {
 
 /// Random cases.
 impl Comparison {
-    /// Packets for a few chains mostly, each from the chains that the one before it left.
-    fn stream(&mut self, mut chains: Chains) {
+    /// Packets for a few chains mostly, each from the chains that the one before it left; and the words
+    /// of all of them.
+    fn stream(&mut self, mut chains: Chains) -> Vec<u32> {
+        let mut all = vec![];
         let group = self.dice.below(16) as u32;
         for _ in 0..STREAM {
             let other = self.dice.below(16) as u32;
@@ -302,7 +397,9 @@ impl Comparison {
                 _ => size(words[0]),
             };
             chains = self.collect(chains, &words[..length]);
+            all.extend(&words[..length]);
         }
+        all
     }
 
     fn random_stream(&mut self) {
@@ -314,7 +411,8 @@ impl Comparison {
             0 => odd_chains(&mut self.dice, part),
             _ => chains_closed(),
         };
-        self.stream(chains);
+        let words = self.stream(chains);
+        self.runs(chains, &words);
     }
 
     /// Flex Data and an exclusive of more packets than Flex Data may have.
@@ -403,6 +501,10 @@ impl Comparison {
         println!(
             "identities with a counterpart and without: into numbers {new:?}, out of them {old:?}"
         );
+        println!("answers of runs: {:?}", self.ran);
+        complete &= [0, 1, 3, 15, 16, 18]
+            .iter()
+            .all(|answer| self.ran[*answer] > 0);
         complete &= self.turned.as_flattened().iter().all(|count| *count > 0);
         if !complete {
             println!("something that can occur was never seen");
@@ -416,12 +518,12 @@ fn main() {
         Some(cases) => cases.parse().expect("usage: chain_sweeps [CASES]"),
         None => DEFAULT_CASES,
     };
-    // It takes nothing and gives back plain chains.
-    let product_closed = unsafe { quernbrae_chains_closed() };
+    // It takes nothing and gives back a plain chain.
+    let product_closed = unsafe { quernbrae_chain_closed() };
     assert_eq!(
         product_closed,
-        chains_closed(),
-        "quernbrae_chains_closed differs"
+        chains_closed().all[0],
+        "quernbrae_chain_closed differs"
     );
     let mut comparison = Comparison::new();
     comparison.every_chain();
@@ -429,6 +531,7 @@ fn main() {
     comparison.every_head();
     comparison.every_bad_place();
     comparison.every_buffer();
+    comparison.every_list();
     comparison.every_identity();
     for _ in 0..cases / STREAM {
         comparison.random_stream();

@@ -231,6 +231,23 @@ pub fn collect(mut chains: Chains, buffer: &mut [u8], words: &[u32]) -> Collecte
     }
 }
 
+/// Call after call, until a message is whole, an open chain is dropped or a packet is cut. Where the
+/// words end without, the answer is that of a packet that is taken in.
+pub fn run_collect(mut chains: Chains, buffer: &mut [u8], words: &[u32]) -> Collected {
+    let mut read = 0;
+    while read < words.len() {
+        let one = collect(chains, buffer, &words[read..]);
+        let drops = matches!(one.answer, OUT_OF_TURN | TOO_MANY_PACKETS | TOO_LONG);
+        let dropped = drops && chains.all[one.chain].is_open();
+        read += one.read;
+        if dropped || matches!(one.answer, SENT | CUT) {
+            return Collected { read, ..one };
+        }
+        chains = one.chains;
+    }
+    beside(TAKEN_IN, read, chains)
+}
+
 /// The sort and the group of a chain, as the program writes them.
 fn name(chain: usize) -> String {
     let sort = if chain < 16 { "exclusive" } else { "flex" };

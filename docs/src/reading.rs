@@ -23,8 +23,8 @@ pub use cable::{
     Imported, CUT_OFF, DROPPED, NOT_FOR_CABLE,
 };
 pub use chains::{
-    chains_closed, collect, whole, Chain, Chains, Collected, BAD_ADDRESS, NO_CHAIN, OUT_OF_TURN,
-    TOO_LONG, TOO_MANY_PACKETS,
+    chains_closed, collect, run_collect, whole, Chain, Chains, Collected, BAD_ADDRESS, NO_CHAIN,
+    OUT_OF_TURN, TOO_LONG, TOO_MANY_PACKETS,
 };
 pub use desk::{desk, exact_decimal, Base, Desk, Display, Shown, BAD_RANGE, NOT_SOUNDING};
 pub use down_run::run_down;

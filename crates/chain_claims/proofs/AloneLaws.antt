@@ -8,44 +8,46 @@ use native.Mathlib.Omega.{arith}
 use lib.ListN.{length, drop, set, length-set}
 use lib.Seq.{getD-set-other, getD-set-same}
 use borrow.Author.Tests.{eq-eqb, ne-eqb}
-use Rattle.stream.specs.Answers.{badAddress}
 use Rattle.screen.specs.Screen.{goesOn}
-use Rattle.chains.specs.declared.Chains.{Chains}
-use Rattle.chains.specs.Step.{fresh}
-use Rattle.chains.specs.Collect.{beside, bufferAfter, bufferWith, chainOf, collected, collectedOf, keptOpen, pieceOf}
-use Rattle.chains.specs.Collect.{refusalOf, share, stepAt, withPart}
+use Rattle.chains.specs.declared.Chain.{Chain}
+use Rattle.chains.specs.declared.Collected.{Collected}
+use Rattle.chains.specs.Step.{fresh, stepOf}
+use Rattle.chains.specs.Collect.{bufferAfter, chainAt, chainOf, chainsAfter, collected, collectedOf, pieceOf, refusalOf}
+use Rattle.chains.specs.Collect.{share, wholeList, withPart}
 use Rattle.chains.proofs.SortLaws.{same-or-not}
-use Rattle.chains.proofs.CollectLaws.{buffer-piece, buffer-same, part-length, report-beside, report-kept, report-piece}
+use Rattle.chains.proofs.CollectLaws.{buffer-piece, buffer-same, chain-piece, chains-same, part-length, report-piece}
+use Rattle.chains.proofs.CollectLaws.{whole-buffer, whole-chains, whole-report}
 use Rattle.chains.proofs.PartLaws.{before, drop-with, part-other, part-same}
-use Rattle.chains.proofs.WithinLaws.{buffer-length, own-length, own-part, piece-low}
+use Rattle.chains.proofs.WithinLaws.{answer-other, buffer-length, own-length, own-part, piece-low}
 use Rattle.chain_claims.specs.Claims.{All32, Alone, Apart, Held, NoTouch, World, after, answer, answers, gathered}
 use Rattle.chain_claims.specs.Claims.{heldAt, one, only, run, tells, told}
 
 -- the chains after a call, and its answer, by whether the packet is a piece
-module _ (cs : Chains) (b s : List ℕ) where
-  chains-piece : refusalOf s ≡ goesOn → collectedOf cs b s .chains
-      ≡ record { all = set (cs .all) (chainOf s) (stepAt cs b (chainOf s) (pieceOf s) .chain) }
+module _ (cs : List Chain) (b s : List ℕ) (full : length cs ≡ wholeList) where
+  abbrev c : Chain
+  c = chainAt (chainOf s) cs
+
+  chains-piece : refusalOf s ≡ goesOn
+      → chainsAfter cs b s ≡ set cs (chainOf s) (stepOf c (share b) (pieceOf s) .chain)
+  chains-piece e = whole-chains cs b s full ∙ ap (set cs (chainOf s)) (chain-piece c (share b) s e)
+
+  answer-piece : refusalOf s ≡ goesOn → collectedOf cs b s .answer ≡ stepOf c (share b) (pieceOf s) .answer
   unfolding collected
-  chains-piece e = rw (report-piece cs b s e)
+  answer-piece e = ap (λ (r : Collected). r .answer) (whole-report cs b s full ∙ report-piece c (share b) s e)
 
-  answer-piece : refusalOf s ≡ goesOn → collectedOf cs b s .answer ≡ stepAt cs b (chainOf s) (pieceOf s) .answer
-  unfolding collected
-  answer-piece e = rw (report-piece cs b s e)
+  others : (refusalOf s ≡ goesOn → ⊥) → (chainsAfter cs b s ≡ cs) × (collectedOf cs b s .answer ≡ refusalOf s)
+  others n = (
+    whole-chains cs b s full ∙ chains-same cs b s n,
+    ap (λ (r : Collected). r .answer) (whole-report cs b s full) ∙ answer-other c (share b) s n,
+  )
 
-  others : (refusalOf s ≡ goesOn → ⊥) → (collectedOf cs b s .chains ≡ cs) × (collectedOf cs b s .answer ≡ refusalOf s)
-  unfolding keptOpen beside
-  others n = go (same-or-not (refusalOf s) badAddress)
-    where
-      go : (refusalOf s ≡ badAddress) ⊎ (refusalOf s ≡ badAddress → ⊥) → (collectedOf cs b s .chains ≡ cs)
-          × (collectedOf cs b s .answer ≡ refusalOf s)
-      go (inl e) = rw (report-kept cs b s e) (refl, sym e)
-      go (inr m) = rw (report-beside cs b s n m) (refl, refl)
+  -- the buffer: a piece's own part stands in it after it, and else it is as it was
+  own-buffer : refusalOf s ≡ goesOn → bufferAfter cs b s ≡ withPart (chainOf s) (own-part c b s) b
+  unfolding own-part
+  own-buffer e = whole-buffer cs b s full ∙ buffer-piece c b s e
 
--- a piece's own part stands in the buffer after it
-own-buffer : (w : World) (p : List ℕ) → refusalOf p ≡ goesOn
-    → bufferAfter (w .chains) (w .buffer) p ≡ withPart (chainOf p) (own-part (w .chains) (w .buffer) p) (w .buffer)
-unfolding own-part bufferWith
-own-buffer w p e = buffer-piece (w .chains) (w .buffer) p e
+  same-buffer : (refusalOf s ≡ goesOn → ⊥) → bufferAfter cs b s ≡ b
+  same-buffer n = whole-buffer cs b s full ∙ buffer-same c b s n
 
 module _ (w : World) (p : List ℕ) (full : All32 w) where
   pub other : (k : ℕ) → k < 32 → (chainOf p ≡ k → ⊥) → heldAt k (after w p) ≡ heldAt k w
@@ -54,14 +56,15 @@ module _ (w : World) (p : List ℕ) (full : All32 w) where
       go : (refusalOf p ≡ goesOn) ⊎ (refusalOf p ≡ goesOn → ⊥) → heldAt k (after w p) ≡ heldAt k w
       go (inl e) =
           rw (
-            chains-piece (w .chains) (w .buffer) p e,
-            own-buffer w p e,
-            getD-set-other (w .chains .all) (chainOf p) k (stepAt (w .chains) (w .buffer) (chainOf p)
+            chains-piece (w .chains) (w .buffer) p full e,
+            own-buffer (w .chains) (w .buffer) p full e,
+            getD-set-other (w .chains) (chainOf p) k (stepOf (chainAt (chainOf p) (w .chains)) (share (w .buffer))
                 (pieceOf p) .chain) fresh (λ q. ne (sym q)),
-            part-other (chainOf p) (own-part (w .chains) (w .buffer) p) (w .buffer) (piece-low p e)
-                (own-length (w .chains) (w .buffer) p e) k low ne,
+            part-other (chainOf p) (own-part (chainAt (chainOf p) (w .chains)) (w .buffer) p) (w .buffer) (piece-low p
+                e)
+                (own-length (chainAt (chainOf p) (w .chains)) (w .buffer) p e) k low ne,
           )
-      go (inr n) = rw (others (w .chains) (w .buffer) p n .0, buffer-same (w .chains) (w .buffer) p n)
+      go (inr n) = rw (others (w .chains) (w .buffer) p full n .0, same-buffer (w .chains) (w .buffer) p full n)
 
   own-piece : refusalOf p ≡ goesOn → (heldAt (chainOf p) (after w p) ≡ one (heldAt (chainOf p) w) p)
       × (answer w p ≡ told (heldAt (chainOf p) w) p)
@@ -69,13 +72,14 @@ module _ (w : World) (p : List ℕ) (full : All32 w) where
   own-piece e =
       let j = chainOf p in
       let low = piece-low p e in
-      let n : j < length (w .chains .all) = omega (arith, full, low) in
+      let n : j < length (w .chains) = omega (arith, full, low) in
       rw (
-        chains-piece (w .chains) (w .buffer) p e,
-        own-buffer w p e,
-        answer-piece (w .chains) (w .buffer) p e,
-        getD-set-same (w .chains .all) j (stepAt (w .chains) (w .buffer) j (pieceOf p) .chain) fresh n,
-        part-same j (own-part (w .chains) (w .buffer) p) (w .buffer) low (own-length (w .chains) (w .buffer) p e),
+        chains-piece (w .chains) (w .buffer) p full e,
+        own-buffer (w .chains) (w .buffer) p full e,
+        answer-piece (w .chains) (w .buffer) p full e,
+        getD-set-same (w .chains) j (stepOf (chainAt j (w .chains)) (share (w .buffer)) (pieceOf p) .chain) fresh n,
+        part-same j (own-part (chainAt (chainOf p) (w .chains)) (w .buffer) p) (w .buffer) low (own-length (chainAt
+            (chainOf p) (w .chains)) (w .buffer) p e),
         e,
         part-length j (w .buffer) low,
       ) (refl, refl)
@@ -89,8 +93,8 @@ module _ (w : World) (p : List ℕ) (full : All32 w) where
           × (answer w p ≡ told (heldAt k w) p)
       go (inl e) = rw (← q) (own-piece e)
       go (inr n) =
-          let o = others (w .chains) (w .buffer) p n in
-          rw (o .0, o .1, buffer-same (w .chains) (w .buffer) p n, ne-eqb (refusalOf p) goesOn n) (refl, refl)
+          let o = others (w .chains) (w .buffer) p full n in
+          rw (o .0, o .1, same-buffer (w .chains) (w .buffer) p full n, ne-eqb (refusalOf p) goesOn n) (refl, refl)
 
   rest : drop (32 * share (w .buffer)) (after w p .buffer) ≡ drop (32 * share (w .buffer)) (w .buffer)
   rest = go (same-or-not (refusalOf p) goesOn)
@@ -98,21 +102,26 @@ module _ (w : World) (p : List ℕ) (full : All32 w) where
       go : (refusalOf p ≡ goesOn) ⊎ (refusalOf p ≡ goesOn → ⊥)
           → drop (32 * share (w .buffer)) (after w p .buffer) ≡ drop (32 * share (w .buffer)) (w .buffer)
       go (inl e) =
-          rw (own-buffer w p e)
-          (drop-with (chainOf p) (own-part (w .chains) (w .buffer) p) (w .buffer) (piece-low p e)
-          (own-length (w .chains) (w .buffer) p e) (32 * share (w .buffer))
+          rw (own-buffer (w .chains) (w .buffer) p full e)
+          (drop-with (chainOf p) (own-part (chainAt (chainOf p) (w .chains)) (w .buffer) p) (w .buffer) (piece-low p e)
+          (own-length (chainAt (chainOf p) (w .chains)) (w .buffer) p e) (32 * share (w .buffer))
           (before (chainOf p) 32 (share (w .buffer)) (piece-low p e)))
-      go (inr n) = rw (buffer-same (w .chains) (w .buffer) p n)
+      go (inr n) = rw (same-buffer (w .chains) (w .buffer) p full n)
 
   same : All32 (after w p) × (length (after w p .buffer) ≡ length (w .buffer))
-  same = (go (same-or-not (refusalOf p) goesOn), buffer-length (w .chains) (w .buffer) p)
+  same = (
+    go (same-or-not (refusalOf p) goesOn),
+    ap length (whole-buffer (w .chains) (w .buffer) p full)
+        ∙ buffer-length (chainAt (chainOf p) (w .chains)) (w .buffer) p,
+  )
     where
       go : (refusalOf p ≡ goesOn) ⊎ (refusalOf p ≡ goesOn → ⊥) → All32 (after w p)
       go (inl e) =
-          rw (chains-piece (w .chains) (w .buffer) p e)
-          (length-set (w .chains .all) (chainOf p) (stepAt (w .chains) (w .buffer) (chainOf p) (pieceOf p) .chain)
+          rw (chains-piece (w .chains) (w .buffer) p full e)
+          (length-set (w .chains) (chainOf p) (stepOf (chainAt (chainOf p) (w .chains)) (share (w .buffer)) (pieceOf
+          p) .chain)
           ∙ full)
-      go (inr n) = rw (others (w .chains) (w .buffer) p n .0) full
+      go (inr n) = rw (others (w .chains) (w .buffer) p full n .0) full
 
   pub apart : Apart w p
   apart = record { other = other; own = own; rest = rest; same = same }

@@ -13,8 +13,8 @@ use Rattle.ground.proofs.Cases.{not-both}
 use Rattle.ump.specs.Packet.{packet}
 use Rattle.stream.specs.Answers.{outOfTurn, sent, takenIn, tooLong, tooManyPackets}
 use Rattle.screen.specs.Screen.{goesOn}
+use Rattle.piece.specs.Piece.{Piece}
 use Rattle.chains.specs.declared.Chain.{Chain}
-use Rattle.piece.specs.declared.Piece.{Piece}
 use Rattle.chains.specs.Step.{baseOf, begins, finishes, grown, most, strays, verdict, verdictBy}
 use Rattle.chains.specs.Collect.{chainAt, chainOf, pieceOf, refusalOf}
 use Rattle.chains.proofs.SortLaws.{same-or-not}
@@ -23,7 +23,8 @@ use Rattle.chain_claims.specs.Claims.{All32, Counted, Held, World, answe
 use Rattle.chain_claims.specs.Claims.{since, told}
 use Rattle.chain_claims.proofs.AloneLaws.{apart, gathered-alone}
 use Rattle.chain_claims.proofs.WholeLaws.{adds-is, one-is}
-use Rattle.chain_claims.proofs.MadeLaws.{idle, idle-next, out-closed, out-open, run-full, shut, told-idle, told-is}
+use Rattle.chain_claims.proofs.MadeLaws.{idle, idle-next, out-closed, out-open, run-full, shut, told-idle}
+use Rattle.chain_claims.proofs.MadeLaws.{told-is}
 use Rattle.chain_claims.proofs.OrderLaws.{sorted-cases}
 
 -- what the packets of chain k are counted as

@@ -12,8 +12,7 @@ use borrow.Author.Tests.{eqb-false, eqb-true, leb-false, leb-true, ne-eqb}
 use Rattle.ground.proofs.Cases.{not-both}
 use Rattle.stream.specs.Answers.{outOfTurn}
 use Rattle.screen.specs.Screen.{goesOn}
-use Rattle.piece.specs.declared.Piece.{Piece}
-use Rattle.piece.specs.Piece.{Fine, payload}
+use Rattle.piece.specs.Piece.{Fine, Piece, payload}
 use Rattle.chains.specs.declared.Chain.{Chain}
 use Rattle.chains.specs.Step.{baseOf, fresh, grown, refusedBy, stepOf, strays, verdict}
 use Rattle.chains.specs.Collect.{pieceOf, refusalOf}

@@ -13,25 +13,24 @@ use Rattle.ground.proofs.Cases.{by-bool}
 use Rattle.ump.specs.Word.{groupOf, messageType}
 use Rattle.ump.specs.Packet.{first, packet, second}
 use Rattle.fields.specs.Check.{badPlaceOf, checkedFields, goodFields, goodStatus}
-use Rattle.stream.specs.Answers.{badAddress, badData, badStatus, cutPacket, outOfTurn, reservedType, sent, takenIn}
-use Rattle.stream.specs.Answers.{tooLong, tooManyPackets}
+use Rattle.stream.specs.Answers.{badAddress, badData, badStatus, cutPacket, noTable, outOfTurn, reservedType, sent}
+use Rattle.stream.specs.Answers.{takenIn, tooLong, tooManyPackets}
 use Rattle.stream.specs.Report.{placeTold}
 use Rattle.screen.specs.declared.Screened.{Screened}
 use Rattle.screen.specs.Screen.{admitted, answering, goesOn, neitherType, outside, reserved, screenBy}
-use Rattle.piece.specs.declared.Piece.{Piece}
-use Rattle.piece.specs.Piece.{chainBy, chainFor, exclusive, flex, noChain, strangeAddress}
+use Rattle.piece.specs.Piece.{Piece, chainBy, chainFor, exclusive, flex, noChain, strangeAddress}
 use Rattle.chains.specs.declared.Chain.{Chain}
-use Rattle.chains.specs.declared.Chains.{Chains}
 use Rattle.chains.specs.Step.{baseOf, begins, finishes, most, strays, verdict, verdictBy}
-use Rattle.chains.specs.Collect.{beside, chainAt, chainOf, collected, collectedOf, keptOpen, ofChain, pieceOf}
+use Rattle.chains.specs.Collect.{beside, chainAt, chainOf, collected, collectedOf, keptOpen, ofChain, pieceOf, reportOf}
+use Rattle.chains.specs.Collect.{reportWith, unlisted, wholeList}
 use Rattle.chains.specs.Collect.{refusalOf}
 use Rattle.chains.specs.Collect.{share, sortBy, sorted}
 use Rattle.chains.proofs.SortLaws.{same-or-not}
 use Rattle.chains.proofs.StepLaws.{step-answer}
 use Rattle.chains.proofs.CollectLaws.{report-beside, report-kept, report-piece}
-use Rattle.chains.proofs.WithinLaws.{reads}
+use Rattle.chains.proofs.WithinLaws.{answer-other, reads as chain-reads}
 use Rattle.stream.specs.Cases.{Case, case, numbered}
-use Rattle.chain_claims.specs.InOrder.{InOrder, casesAt, hasChain, isOpen}
+use Rattle.chain_claims.specs.InOrder.{InOrder, casesAt, casesOver, hasChain, isOpen}
 
 -- no chain: of another type
 no-chain : (w : ℕ) → eqb (chainBy w) noChain ≡ not (hasChain w)
@@ -161,37 +160,62 @@ no-data c n x = go (strays c x) (leb most (c .packets)) (ltb n (baseOf c + x .co
     go false false false true = refl
     go false false false false = refl
 
-module _ (cs : Chains) (b s : List ℕ) where
-  answers : collectedOf cs b s .answer ≡ numbered (casesAt (chainAt (chainOf s) cs) (share b) (packet s))
-  unfolding collected keptOpen beside
-  answers = go (same-or-not (refusalOf s) goesOn) (same-or-not (refusalOf s) badAddress)
-      ∙ sym (before-then (packet s) rest)
+-- with the packet's own chain
+module _ (c : Chain) (n : ℕ) (s : List ℕ) where
+  chain-answers : reportWith c n s .answer ≡ numbered (casesAt c n (packet s))
+  unfolding collected
+  chain-answers = go (same-or-not (refusalOf s) goesOn) ∙ sym (before-then (packet s) rest)
     where
       rest : List Case
-      rest = casesOfPiece (chainAt (chainOf s) cs) (share b) (pieceOf s)
+      rest = casesOfPiece c n (pieceOf s)
 
       go : (refusalOf s ≡ goesOn) ⊎ (refusalOf s ≡ goesOn → ⊥)
-          → (refusalOf s ≡ badAddress) ⊎ (refusalOf s ≡ badAddress → ⊥)
-          → collectedOf cs b s .answer ≡ cond (eqb (refusalOf s) goesOn) (numbered rest) (refusalOf s)
-      go (inl e) f =
-          rw (report-piece cs b s e, e)
-          (step-answer (chainAt (chainOf s) cs) (share b) (pieceOf s)
-          ∙ sym (piece-cases (chainAt (chainOf s) cs) (share b) (pieceOf s)))
-      go (inr n) (inl e) = rw (report-kept cs b s e, e)
-      go (inr n) (inr m) = rw (report-beside cs b s n m, ne-eqb (refusalOf s) goesOn n)
+          → reportWith c n s .answer ≡ cond (eqb (refusalOf s) goesOn) (numbered rest) (refusalOf s)
+      go (inl e) =
+          rw (report-piece c n s e, e) (step-answer c n (pieceOf s) ∙ sym (piece-cases c n (pieceOf s)))
+      go (inr m) = rw (answer-other c n s m, ne-eqb (refusalOf s) goesOn m)
 
-  places : collectedOf cs b s .place ≡ placeTold (collectedOf cs b s .answer) (packet s)
+  chain-places : reportWith c n s .place ≡ placeTold (reportWith c n s .answer) (packet s)
   unfolding collected keptOpen beside
-  places = go (same-or-not (refusalOf s) goesOn) (same-or-not (refusalOf s) badAddress)
+  chain-places = go (same-or-not (refusalOf s) goesOn) (same-or-not (refusalOf s) badAddress)
     where
       go : (refusalOf s ≡ goesOn) ⊎ (refusalOf s ≡ goesOn → ⊥)
           → (refusalOf s ≡ badAddress) ⊎ (refusalOf s ≡ badAddress → ⊥)
-          → collectedOf cs b s .place ≡ placeTold (collectedOf cs b s .answer) (packet s)
-      go (inl e) f =
-          let c = chainAt (chainOf s) cs in
-          rw (report-piece cs b s e, step-answer c (share b) (pieceOf s), no-data c (share b) (pieceOf s))
-      go (inr n) (inl e) = rw (report-kept cs b s e)
-      go (inr n) (inr m) = rw (report-beside cs b s n m) (sorted-place (packet s))
+          → reportWith c n s .place ≡ placeTold (reportWith c n s .answer) (packet s)
+      go (inl e) f = rw (report-piece c n s e, step-answer c n (pieceOf s), no-data c n (pieceOf s))
+      go (inr m) (inl e) = rw (report-kept c n s e)
+      go (inr m) (inr o) = rw (report-beside c n s m o) (sorted-place (packet s))
+
+-- and over a list, which is asked first
+module _ (cs : List Chain) (b s : List ℕ) where
+  abbrev c : Chain
+  c = chainAt (chainOf s) cs
+
+  answers : collectedOf cs b s .answer ≡ numbered (casesOver cs b s)
+  unfolding collectedOf beside
+  answers = go (eqb (length cs) wholeList)
+    where
+      go : (t : Bool) → cond t (reportOf cs b s) unlisted .answer
+          ≡ cond (not t) noTable (numbered (casesAt c (share b) (packet s)))
+      go true = chain-answers c (share b) s
+      go false = refl
+
+  reads : collectedOf cs b s .read ≡ cond (eqb (length cs) wholeList) (length (packet s)) 0
+  unfolding collectedOf beside
+  reads = go (eqb (length cs) wholeList)
+    where
+      go : (t : Bool) → cond t (reportOf cs b s) unlisted .read ≡ cond t (length (packet s)) 0
+      go true = chain-reads c (share b) s
+      go false = refl
+
+  places : collectedOf cs b s .place ≡ placeTold (collectedOf cs b s .answer) (packet s)
+  unfolding collectedOf beside
+  places = go (eqb (length cs) wholeList)
+    where
+      go : (t : Bool) → cond t (reportOf cs b s) unlisted .place
+          ≡ placeTold (cond t (reportOf cs b s) unlisted .answer) (packet s)
+      go true = chain-places c (share b) s
+      go false = refl
 
 pub proved-in-order : InOrder
 proved-in-order = record { answers = answers; reads = reads; places = places }

@@ -13,11 +13,12 @@ use borrow.Author.Tests.{eq-eqb, eqb-true, le-leb, le-ltb, lt-leb, lt-ltb, ne-eq
 use Rattle.ump.specs.Packet.{first, packet}
 use Rattle.ump.specs.Word.{groupOf, messageType}
 use Rattle.screen.specs.Screen.{goesOn}
-use Rattle.piece.specs.declared.Piece.{Piece}
-use Rattle.piece.specs.Piece.{Fine, chainFor, exclusive, exclusivePiece, flex, flexPiece, noChain, payload, pieceFor}
+use Rattle.piece.specs.Piece.{Fine, Piece, chainFor, exclusive, exclusivePiece, flex, flexPiece, noChain, payload}
+use Rattle.piece.specs.Piece.{pieceFor}
 use Rattle.chains.specs.Step.{baseOf, grown, partOf, stepOf, strays, verdict, verdictBy}
 use Rattle.chains.specs.Collect.{chainAt, chainOf, partAt, pieceOf, refusalOf, share}
-use Rattle.chain_claims.specs.Claims.{All32, Finished, Held, Message, Middles, Piecewise, World, answers, gathered}
+use Rattle.chain_claims.specs.Claims.{All32, Finished, Held, Message, Middles, Piecewise, World, answers}
+use Rattle.chain_claims.specs.Claims.{gathered}
 use Rattle.chain_claims.specs.Claims.{heldAt, holding, one, only, payloads, run, tells, told}
 use Rattle.piece.proofs.PieceLaws.{piece-fine}
 use Rattle.chains.proofs.CollectLaws.{part-length}

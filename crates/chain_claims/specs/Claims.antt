@@ -11,13 +11,13 @@ use Rattle.stream.specs.Answers.{outOfTurn, sent, takenIn, tooManyPackets}
 use Rattle.screen.specs.Screen.{goesOn}
 use Rattle.piece.specs.Piece.{complete, continued, end, payload, start}
 use Rattle.chains.specs.declared.Chain.{Chain}
-use Rattle.chains.specs.declared.Chains.{Chains}
 use Rattle.chains.specs.Step.{begins, fresh, most, partOf, stepOf}
-use Rattle.chains.specs.Collect.{bufferAfter, chainAt, chainOf, collectedOf, partAt, pieceOf, refusalOf, share}
+use Rattle.chains.specs.Collect.{bufferAfter, chainAt, chainOf, chainsAfter, collectedOf, partAt, pieceOf, refusalOf}
+use Rattle.chains.specs.Collect.{share, wholeList}
 
 -- The chains and the buffer, as a call leaves them.
 pub record World : Type 0 where
-  pub chains : Chains
+  pub chains : List Chain
   pub buffer : List ℕ
 
 abbrev pub answer : World → List ℕ → ℕ
@@ -26,7 +26,7 @@ answer w p = collectedOf (w .chains) (w .buffer) p .answer
 abbrev pub after : World → List ℕ → World
 after w p =
     record {
-      chains = collectedOf (w .chains) (w .buffer) p .chains;
+      chains = chainsAfter (w .chains) (w .buffer) p;
       buffer = bufferAfter (w .chains) (w .buffer) p;
     }
 
@@ -75,9 +75,9 @@ unfoldable pub tells : Held → List (List ℕ) → List ℕ
 tells h [] = []
 tells h (p ∷ ps) = told h p ∷ tells (one h p) ps
 
--- 32 chains, as the type says
+-- a whole list of chains
 abbrev pub All32 : World → Type 0
-All32 w = length (w .chains .all) ≡ 32
+All32 w = length (w .chains) ≡ wholeList
 
 -- Chains do not touch.
 pub record Apart (w : World) (p : List ℕ) : Type 0 where

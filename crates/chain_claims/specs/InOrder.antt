@@ -8,15 +8,14 @@ use lib.Dec.{eqb, leb, ltb}
 use Rattle.ump.specs.Word.{messageType}
 use Rattle.ump.specs.Packet.{first, packet, second}
 use Rattle.fields.specs.Check.{checkedFields, goodFields, goodStatus}
-use Rattle.stream.specs.Answers.{badAddress, badData, badStatus, cutPacket, outOfTurn, reservedType, takenIn}
-use Rattle.stream.specs.Answers.{tooLong, tooManyPackets}
+use Rattle.stream.specs.Answers.{badAddress, badData, badStatus, cutPacket, noTable, outOfTurn, reservedType}
+use Rattle.stream.specs.Answers.{takenIn, tooLong, tooManyPackets}
 use Rattle.stream.specs.Report.{placeTold}
 use Rattle.screen.specs.Screen.{reserved}
 use Rattle.piece.specs.Piece.{addressOf, exclusive, flex, pieceIn}
 use Rattle.chains.specs.declared.Chain.{Chain}
-use Rattle.chains.specs.declared.Chains.{Chains}
 use Rattle.chains.specs.Step.{begins, finishes, most}
-use Rattle.chains.specs.Collect.{chainAt, chainOf, collectedOf, share}
+use Rattle.chains.specs.Collect.{chainAt, chainOf, collectedOf, share, wholeList}
 use Rattle.stream.specs.Cases.{Case, case, numbered}
 
 -- a chain that has begun
@@ -45,11 +44,16 @@ casesAt c n p =
     ∷ case takenIn (not (finishes x))
     ∷ []
 
+-- and first of all 10, where the list of chains is not one of 32
+abbrev pub casesOver : List Chain → List ℕ → List ℕ → List Case
+casesOver cs b s =
+    case noTable (not (eqb (length cs) wholeList)) ∷ casesAt (chainAt (chainOf s) cs) (share b) (packet s)
+
 -- Each number is answered exactly in its case, and 0 where none of them holds; the words read are the packet's, of
--- which there are none where it is cut; and a place is told exactly with 7.
+-- which there are none where it is cut or the list is not whole; and a place is told exactly with 7.
 pub record InOrder : Type 0 where
-  pub answers : (cs : Chains) (b s : List ℕ)
-      → collectedOf cs b s .answer ≡ numbered (casesAt (chainAt (chainOf s) cs) (share b) (packet s))
-  pub reads : (cs : Chains) (b s : List ℕ) → collectedOf cs b s .read ≡ length (packet s)
-  pub places : (cs : Chains) (b s : List ℕ)
+  pub answers : (cs : List Chain) (b s : List ℕ) → collectedOf cs b s .answer ≡ numbered (casesOver cs b s)
+  pub reads : (cs : List Chain) (b s : List ℕ)
+      → collectedOf cs b s .read ≡ cond (eqb (length cs) wholeList) (length (packet s)) 0
+  pub places : (cs : List Chain) (b s : List ℕ)
       → collectedOf cs b s .place ≡ placeTold (collectedOf cs b s .answer) (packet s)

@@ -1,18 +1,21 @@
--- Parts of the buffer, and what a call answers by its refusal. Assumes nothing.
+-- Parts of the buffer, and a call by its refusal: with one chain, and with a list of 32. Assumes nothing.
 use Prim.Native.Nat.{ℕ, _+_, _*_, _/_, _-_, _≤_, _<_}
 use mathlib.Core.Path.{_≡_, ap, _∙_}
 use mathlib.Core.List.{List, _++_}
 use native.Mathlib.Omega.{arith}
 use native.Mathlib.Nat.{add-mul, div-mul-le-self, mul-le-mul-right}
 use lib.ListN.{length, take, drop, length-drop, length-take}
-use borrow.Author.Tests.{ne-eqb}
+use borrow.Author.Tests.{eq-eqb, ne-eqb}
 use borrow.Rule.Slice.PartMut.{midOf, post-is, putMid}
-use Rattle.chains.specs.declared.Chains.{Chains}
+use lib.Seq.{set-getD}
+use Rattle.chains.specs.declared.Chain.{Chain}
 use Rattle.ump.specs.Packet.{packet}
 use Rattle.stream.specs.Answers.{badAddress}
 use Rattle.screen.specs.Screen.{goesOn}
-use Rattle.chains.specs.Collect.{beside, bufferAfter, bufferWith, chainOf, collected, collectedOf, keptOpen}
-use Rattle.chains.specs.Collect.{partAt, pieceOf, refusalOf, share, sorted, withPart}
+use Rattle.chains.specs.Step.{fresh, partOf, stepOf}
+use Rattle.chains.specs.Collect.{beside, bufferAfter, bufferOf, bufferWith, chainAt, chainOf, chainWith}
+use Rattle.chains.specs.Collect.{chainsAfter, chainsOf, collected, collectedOf, keptOpen, partAt, pieceOf}
+use Rattle.chains.specs.Collect.{refusalOf, reportOf, reportWith, share, sorted, wholeList, withPart}
 
 -- part k ends within the buffer
 pub part-end : (k n : ℕ) → k < 32 → k * (n / 32) + n / 32 ≤ n
@@ -38,26 +41,55 @@ pub part-length : (k : ℕ) (b : List ℕ) → k < 32 → length (partAt k b) �
 part-length k b h =
     length-take (share b) (drop (k * share b) b) ∙ omega (arith, length-drop (k * share b) b, part-end k (length b) h)
 
-module _ (cs : Chains) (b s : List ℕ) where
-  pub report-piece : refusalOf s ≡ goesOn → collectedOf cs b s
-      ≡ collected cs b (chainOf s) (length (packet s)) (pieceOf s)
-  unfolding collectedOf
+-- a call with one chain, by its refusal
+module _ (c : Chain) (n : ℕ) (s : List ℕ) where
+  pub report-piece : refusalOf s ≡ goesOn → reportWith c n s
+      ≡ collected c n (chainOf s) (length (packet s)) (pieceOf s)
+  unfolding reportWith
   report-piece e = rw e
 
-  pub buffer-piece : refusalOf s ≡ goesOn → bufferAfter cs b s ≡ bufferWith cs b (chainOf s) (pieceOf s)
-  unfolding bufferAfter
-  buffer-piece e = rw e
-
-  pub report-kept : refusalOf s ≡ badAddress → collectedOf cs b s
-      ≡ keptOpen cs (share b) (chainOf s) (length (packet s))
-  unfolding collectedOf
+  pub report-kept : refusalOf s ≡ badAddress → reportWith c n s ≡ keptOpen c n (chainOf s) (length (packet s))
+  unfolding reportWith
   report-kept e = rw e
 
   pub report-beside : (refusalOf s ≡ goesOn → ⊥) → (refusalOf s ≡ badAddress → ⊥)
-      → collectedOf cs b s ≡ beside cs (sorted (packet s)) (length (packet s))
-  unfolding collectedOf
+      → reportWith c n s ≡ beside (sorted (packet s)) (length (packet s))
+  unfolding reportWith
   report-beside e f = rw (ne-eqb (refusalOf s) goesOn e, ne-eqb (refusalOf s) badAddress f)
 
-  pub buffer-same : (refusalOf s ≡ goesOn → ⊥) → bufferAfter cs b s ≡ b
-  unfolding bufferAfter
+  pub chain-piece : refusalOf s ≡ goesOn → chainWith c n s ≡ stepOf c n (pieceOf s) .chain
+  unfolding chainWith
+  chain-piece e = rw e
+
+  pub chain-same : (refusalOf s ≡ goesOn → ⊥) → chainWith c n s ≡ c
+  unfolding chainWith
+  chain-same e = rw (ne-eqb (refusalOf s) goesOn e)
+
+module _ (c : Chain) (b s : List ℕ) where
+  pub buffer-piece : refusalOf s ≡ goesOn
+      → bufferWith c b s ≡ withPart (chainOf s) (partOf c (partAt (chainOf s) b) (pieceOf s)) b
+  unfolding bufferWith
+  buffer-piece e = rw e
+
+  pub buffer-same : (refusalOf s ≡ goesOn → ⊥) → bufferWith c b s ≡ b
+  unfolding bufferWith
   buffer-same e = rw (ne-eqb (refusalOf s) goesOn e)
+
+-- a call with a list of 32 is that with the packet's own chain
+module _ (cs : List Chain) (b s : List ℕ) (full : length cs ≡ wholeList) where
+  pub whole-report : collectedOf cs b s ≡ reportOf cs b s
+  unfolding collectedOf
+  whole-report = rw (eq-eqb (length cs) wholeList full)
+
+  pub whole-chains : chainsAfter cs b s ≡ chainsOf cs b s
+  unfolding chainsAfter
+  whole-chains = rw (eq-eqb (length cs) wholeList full)
+
+  pub whole-buffer : bufferAfter cs b s ≡ bufferOf cs b s
+  unfolding bufferAfter
+  whole-buffer = rw (eq-eqb (length cs) wholeList full)
+
+-- with no chain asked the list is as it was
+pub chains-same : (cs : List Chain) (b s : List ℕ) → (refusalOf s ≡ goesOn → ⊥) → chainsOf cs b s ≡ cs
+chains-same cs b s n =
+    rw (chain-same (chainAt (chainOf s) cs) (share b) s n) (set-getD cs (chainOf s) fresh)

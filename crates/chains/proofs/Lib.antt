@@ -3,3 +3,9 @@ pub mod StepLaws
 pub mod CollectLaws
 pub mod PartLaws
 pub mod WithinLaws
+pub mod AskLaws
+pub mod PutLaws
+pub mod StandLaws
+pub mod TurnLaws
+pub mod ListLaws
+pub mod RunLaws

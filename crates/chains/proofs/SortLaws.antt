@@ -20,7 +20,7 @@ use Rattle.piece.proofs.PieceLaws.{chain-most}
 use Rattle.chains.specs.Collect.{ofChain, sortBy, sorted}
 
 -- the screening knows no addresses
-screen-no-address : (p : List ℕ) → screen neitherType p .answer ≡ badAddress → ⊥
+pub screen-no-address : (p : List ℕ) → screen neitherType p .answer ≡ badAddress → ⊥
 unfolding screenBy outside admitted
 screen-no-address p =
     choose Other (eqb (length p) 0) (λ _. no cutPacket refl)

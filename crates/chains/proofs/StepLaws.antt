@@ -11,10 +11,10 @@ use borrow.Author.Tests.{le-leb, leb-false, leb-true, lt-leb, ltb-false}
 use Rattle.chains.specs.declared.Chain.{Chain}
 use Rattle.ground.proofs.Cases.{choose}
 use Rattle.stream.specs.Answers.{outOfTurn, sent, takenIn, tooLong, tooManyPackets}
-use Rattle.piece.specs.declared.Piece.{Piece}
-use Rattle.piece.specs.Piece.{Fine}
-use Rattle.chains.specs.declared.Stepped.{Stepped}
-use Rattle.chains.specs.Step.{baseOf, grown, partOf, refusedBy, stepOf, verdict, verdictBy}
+use Rattle.piece.specs.Piece.{Fine, Piece}
+use Rattle.chains.specs.Step.{Stepped, baseOf, grown, partOf, refusedBy, stepOf, strays, verdict, verdictBy}
+use Rattle.chains.specs.Turn.{bare, chainLeft}
+use Rattle.piece.specs.Piece.{headOf}
 
 -- taken: not out of turn, fewer than 32 packets, and there is room
 pub taken : (out : Bool) (packets base n count : ℕ) (last : Bool) → verdictBy out packets base n count last ≤ 1
@@ -31,17 +31,6 @@ taken out packets base n count last h = go out (leb 32 packets) refl (ltb n (bas
     go false false e false g h = (refl, leb-false 32 packets e, ltb-false n (base + count) g)
 
 module _ (c : Chain) (x : Piece) (a : ℕ) where
-  -- what the step hands back, by its answer
-  pub step-taken : (n : ℕ) (g : Chain) → a ≡ verdict c n x → a ≤ 1 → g ≡ grown c x
-      → _≡_ {A = Stepped} (record { answer = a; chain = g }) (stepOf c n x)
-  unfolding stepOf
-  step-taken n g e h k = rw (← e, le-leb a 1 h, k)
-
-  pub step-refused : (n : ℕ) (g : Chain) → a ≡ verdict c n x → 1 < a → g ≡ refusedBy a c
-      → _≡_ {A = Stepped} (record { answer = a; chain = g }) (stepOf c n x)
-  unfolding stepOf
-  step-refused n g e h k = rw (← e, lt-leb a 1 h, k)
-
   pub part-taken : (p : List ℕ) → a ≡ verdict c (length p) x → a ≤ 1
       → paste p (baseOf c) (x .bytes) (x .count) ≡ partOf c p x
   unfolding partOf
@@ -59,6 +48,27 @@ part-kept c p x f =
     (λ e. length-paste p (baseOf c) (x .bytes) (x .count) (taken _ _ _ _ _ _ (leb-true (verdict c (length p) x) 1 e) .2)
     (omega (arith, f .few, f .places)))
     (λ _. refl)
+
+-- a step is its verdict, and the chain that this leaves
+pub step-is : (c : Chain) (n : ℕ) (x : Piece)
+    → stepOf c n x ≡ record { answer = verdict c n x; chain = chainLeft (verdict c n x) c x }
+unfolding stepOf chainLeft
+step-is c n x = go (leb (verdict c n x) 1)
+  where
+    go : (b : Bool) → _≡_ {A = Stepped} (cond b (record { answer = verdict c n x; chain = grown c x })
+        (record { answer = verdict c n x; chain = refusedBy (verdict c n x) c }))
+        (record { answer = verdict c n x; chain = cond b (grown c x) (refusedBy (verdict c n x) c) })
+    go true = refl
+    go false = refl
+
+-- neither asks the bytes
+pub bare-verdict : (c : Chain) (n : ℕ) (x : Piece) → verdict c n (bare (headOf x)) ≡ verdict c n x
+unfolding strays
+bare-verdict c n x = refl
+
+pub bare-left : (a : ℕ) (c : Chain) (x : Piece) → chainLeft a c (bare (headOf x)) ≡ chainLeft a c x
+unfolding chainLeft grown
+bare-left a c x = refl
 
 -- the answer of a step is its verdict
 pub step-answer : (c : Chain) (n : ℕ) (x : Piece) → stepOf c n x .answer ≡ verdict c n x

@@ -1,2 +1,4 @@
 pub mod Step
 pub mod Collect
+pub mod Run
+pub mod Turn

@@ -6,10 +6,8 @@ use lib.ListN.{length}
 use lib.Seq.{paste}
 use lib.Dec.{eqb, leb, ltb}
 use Rattle.stream.specs.Answers.{outOfTurn, sent, takenIn, tooLong, tooManyPackets}
-use Rattle.piece.specs.declared.Piece.{Piece}
-use Rattle.piece.specs.Piece.{complete, end, start}
+use Rattle.piece.specs.Piece.{Piece, complete, end, start}
 use Rattle.chains.specs.declared.Chain.{Chain}
-use Rattle.chains.specs.declared.Stepped.{Stepped}
 
 -- A chain of which nothing is known: none is open, and none was. So it is after a drop.
 abbrev pub fresh : Chain
@@ -66,6 +64,11 @@ refusedBy a c = cond (eqb a outOfTurn) (cond (closed c) c fresh) fresh
 -- an answer of 0 or 1: the piece is taken
 abbrev pub taken : ℕ → Bool
 taken a = leb a takenIn
+
+-- What the step on one chain answers, and the chain after it.
+pub record Stepped : Type 0 where
+  pub answer : ℕ
+  pub chain : Chain
 
 unfoldable pub stepOf : Chain → ℕ → Piece → Stepped
 stepOf c n x =

@@ -1,22 +1,33 @@
 // One piece into one chain and its part of the buffer.
 use crate::Chain;
-use crate::Stepped;
 use piece::COMPLETE;
 use piece::END;
-use piece::Piece;
+use piece::EXCLUSIVE_BYTES;
+use piece::FLEX;
+use piece::Head;
 use piece::START;
+use piece::head_of;
 use stream::OUT_OF_TURN;
 use stream::SENT;
 use stream::TAKEN_IN;
 use stream::TOO_LONG;
 use stream::TOO_MANY_PACKETS;
+use ump::byte1;
+use ump::byte2;
+use ump::byte3;
+use ump::byte4;
+use ump::message_type;
 ghost use mathlib.Core.Path.{_≡_};
-ghost use Prim.Native.Nat.{_+_, _≤_};
-ghost use lib.ListN.{length};
-ghost use lib.Seq.{paste};
-ghost use Rattle.piece.specs.Piece.{Fine};
-ghost use Rattle.chains.specs.Step.{baseOf, finishes, partOf, refusedBy, stepOf, strays, verdictBy};
+ghost use mathlib.Core.List.{[], _∷_};
+ghost use Prim.Native.Nat.{_+_, _≤_, _<_};
+ghost use lib.ListN.{getD, length};
+ghost use lib.Seq.{paste, sets};
+ghost use Rattle.ump.specs.Word;
+ghost use Rattle.piece.specs.Piece.{exclusiveBytes, flexBytes};
+ghost use Rattle.chains.specs.Step.{baseOf, finishes, partOf, refusedBy, strays, verdict, verdictBy};
 ghost use Rattle.chains.specs.Step;
+ghost use Rattle.chains.specs.Collect.{partAt, share, withPart};
+ghost use Rattle.chains.specs.Turn.{Standing, bare, chainLeft, pieceAt};
 
 // The most packets that a chain may have.
 const MOST_PACKETS: u32 = 32;
@@ -30,8 +41,8 @@ fn base_of(c: Chain) -> usize
 }
 
 // Whether a piece comes out of turn.
-fn is_stray(c: Chain, x: Piece) -> bool
-    ensures { λ r. ⌜ r ≡ strays c x ⌝ }
+fn is_stray(c: Chain, x: Head) -> bool
+    ensures { λ r. ⌜ r ≡ strays c (bare x) ⌝ }
 {
     let packets = c.packets;
     let begins = x.format <= START;
@@ -41,8 +52,8 @@ fn is_stray(c: Chain, x: Piece) -> bool
     begins | !(c.shared == x.shared)
 }
 
-fn is_last(x: Piece) -> bool
-    ensures { λ r. ⌜ r ≡ finishes x ⌝ }
+fn is_last(x: Head) -> bool
+    ensures { λ r. ⌜ r ≡ finishes (bare x) ⌝ }
 {
     (x.format == COMPLETE) | (x.format == END)
 }
@@ -67,9 +78,9 @@ fn verdict(stray: bool, packets: u32, base: usize, room: usize, count: usize, la
 }
 
 // The chain with the piece in it.
-fn grown(c: Chain, x: Piece) -> Chain
+fn grown(c: Chain, x: Head) -> Chain
     requires { ⌜ (c .packets + x .adds ≤ 4294967295) × (baseOf c + x .count ≤ 18446744073709551615) ⌝ }
-    ensures { λ r. ⌜ r ≡ Step.grown c x ⌝ }
+    ensures { λ r. ⌜ r ≡ Step.grown c (bare x) ⌝ }
 {
     let length = base_of(c) + x.count;
     let shared = x.shared;
@@ -109,24 +120,103 @@ fn refused(answer: u32, c: Chain) -> Chain
     crate::closed_chain()
 }
 
-// Stores the first bytes from a place on.
-fn put(part: &mut [u8], at: usize, bytes: [u8; 12], count: usize)
-    requires { ⌜ (at + count ≤ length (now part)) × (count ≤ 12) × (length bytes ≡ 12) ⌝ }
-    ensures { λ _. ⌜ now (part .exit) ≡ paste (now (part .entry)) at bytes count ⌝ }
+// The chain after a piece, by its answer.
+pub(crate) fn after(answer: u32, c: Chain, x: Head) -> Chain
+    requires { ⌜ (answer ≤ 1 → (c .packets + x .adds ≤ 4294967295)
+        × (baseOf c + x .count ≤ 18446744073709551615)) ⌝ }
+    ensures { λ r. ⌜ r ≡ chainLeft answer c (bare x) ⌝ }
 {
-    let mut i = 0;
-    while i < count {
-        part[at + i] = bytes[i];
-        i += 1;
+    if answer <= TAKEN_IN {
+        return grown(c, x);
     }
+    refused(answer, c)
 }
 
-// One piece: the answer, the chain after it, and its part.
-pub(crate) fn step(c: Chain, part: &mut [u8], x: Piece) -> Stepped
-    requires { ⌜ Fine x ⌝ }
-    ensures stepped { λ r. ⌜ r ≡ stepOf c (length (now (part .entry))) x ⌝ }
-    ensures part { λ _. ⌜ now (part .exit) ≡ partOf c (now (part .entry)) x ⌝ }
+// Stores the four bytes of a word from a place on.
+fn put_word(part: &mut [u8], at: usize, w: u32)
+    requires { ⌜ at + 4 ≤ length (now part) ⌝ }
+    ensures { λ _. ⌜ now (part .exit) ≡ sets (now (part .entry)) at
+        (Word.byte1 w ∷ Word.byte2 w ∷ Word.byte3 w ∷ Word.byte4 w ∷ []) ⌝ }
 {
+    part[at] = byte1(w);
+    part[at + 1] = byte2(w);
+    part[at + 2] = byte3(w);
+    part[at + 3] = byte4(w);
+}
+
+// Stores the twelve bytes of Flex Data, whose packet stands at a place of the words.
+fn put_flex(part: &mut [u8], base: usize, words: &[u32], at: usize)
+    requires { ⌜ (base + 12 ≤ length (now part)) × (at + 4 ≤ length (now words)) ⌝ }
+    ensures { λ _. ⌜ now (part .exit) ≡ paste (now (part .entry)) base
+        (flexBytes (getD (now (words .entry)) (at + 1) 0) (getD (now (words .entry)) (at + 2) 0)
+        (getD (now (words .entry)) (at + 3) 0)) 12 ⌝ }
+{
+    put_word(part, base, words[at + 1]);
+    put_word(part, base + 4, words[at + 2]);
+    put_word(part, base + 8, words[at + 3]);
+}
+
+// Stores the six bytes that most packets of an exclusive have.
+fn put_six(part: &mut [u8], base: usize, words: &[u32], at: usize)
+    requires { ⌜ (base + 6 ≤ length (now part)) × (at + 2 ≤ length (now words)) ⌝ }
+    ensures { λ _. ⌜ now (part .exit) ≡ paste (now (part .entry)) base
+        (exclusiveBytes (getD (now (words .entry)) at 0) (getD (now (words .entry)) (at + 1) 0)) 6 ⌝ }
+{
+    part[base] = byte3(words[at]);
+    part[base + 1] = byte4(words[at]);
+    put_word(part, base + 2, words[at + 1]);
+}
+
+// Stores the first bytes of an exclusive's packet, where it has fewer than six.
+fn put_some(part: &mut [u8], base: usize, w: u32, v: u32, n: usize)
+    requires { ⌜ (base + n ≤ length (now part)) × (n < 6) ⌝ }
+    ensures { λ _. ⌜ now (part .exit) ≡ paste (now (part .entry)) base (exclusiveBytes w v) n ⌝ }
+{
+    if n == 0 {
+        return;
+    }
+    part[base] = byte3(w);
+    if n == 1 {
+        return;
+    }
+    part[base + 1] = byte4(w);
+    if n == 2 {
+        return;
+    }
+    part[base + 2] = byte1(v);
+    if n == 3 {
+        return;
+    }
+    part[base + 3] = byte2(v);
+    if n == 4 {
+        return;
+    }
+    part[base + 4] = byte3(v);
+}
+
+// Stores the bytes of the piece at a place of the words, so many as it has.
+fn put(part: &mut [u8], base: usize, words: &[u32], at: usize, n: usize)
+    requires { ⌜ Standing (now words) at × (base + n ≤ length (now part)) × (n ≡ pieceAt (now words) at .count) ⌝ }
+    ensures { λ _. ⌜ now (part .exit) ≡ paste (now (part .entry)) base (pieceAt (now (words .entry)) at .bytes) n ⌝ }
+{
+    if message_type(words[at]) == FLEX {
+        put_flex(part, base, words, at);
+        return;
+    }
+    if n == EXCLUSIVE_BYTES {
+        put_six(part, base, words, at);
+        return;
+    }
+    put_some(part, base, words[at], words[at + 1], n);
+}
+
+// The answer to the piece at a place of the words. One that is taken is stored in the chain's part.
+fn step(c: Chain, part: &mut [u8], words: &[u32], at: usize) -> u32
+    requires { ⌜ Standing (now words) at ⌝ }
+    ensures answer { λ r. ⌜ r ≡ verdict c (length (now (part .entry))) (pieceAt (now (words .entry)) at) ⌝ }
+    ensures part { λ _. ⌜ now (part .exit) ≡ partOf c (now (part .entry)) (pieceAt (now (words .entry)) at) ⌝ }
+{
+    let x = head_of(words[at]);
     let base = base_of(c);
     let answer = verdict(
         is_stray(c, x),
@@ -137,15 +227,22 @@ pub(crate) fn step(c: Chain, part: &mut [u8], x: Piece) -> Stepped
         is_last(x),
     );
     if answer <= TAKEN_IN {
-        let bytes = x.bytes;
-        put(part, base, bytes, x.count);
-        return Stepped {
-            answer,
-            chain: grown(c, x),
-        };
+        put(part, base, words, at, x.count);
+        return answer;
     }
-    Stepped {
-        answer,
-        chain: refused(answer, c),
-    }
+    answer
+}
+
+// The same with the whole buffer, for chain k: what is lent to the step is that chain's own part.
+pub(crate) fn take(c: Chain, buffer: &mut [u8], k: usize, words: &[u32], at: usize) -> u32
+    requires { ⌜ (k < 32) × Standing (now words) at ⌝ }
+    ensures answer { λ r. ⌜ r ≡ verdict c (share (now (buffer .entry))) (pieceAt (now (words .entry)) at) ⌝ }
+    ensures buffer { λ _. ⌜ now (buffer .exit)
+        ≡ withPart k (partOf c (partAt k (now (buffer .entry))) (pieceAt (now (words .entry)) at))
+        (now (buffer .entry)) ⌝ }
+{
+    let share = buffer.len() / 32;
+    let from = k * share;
+    let end = from + share;
+    step(c, &mut buffer[from..end], words, at)
 }

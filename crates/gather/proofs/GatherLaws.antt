@@ -1,5 +1,5 @@
--- What one packet comes to, as the code says it and as the definition does; and that a step looks at its own packet alone,
--- goes on only with a whole one, and always has room for its line. Assumes nothing.
+-- What one packet comes to, as the code says it and as the definition does; and that a step looks at its own packet
+-- alone, goes on only with a whole one, and always has room for its line. Assumes nothing.
 use Prim.Native.Nat.{ℕ, _+_, _-_, _≤_}
 use mathlib.Core.Path.{_≡_, refl, sym, ap, _∙_, subst}
 use mathlib.Core.Bool.{true, false, cond}
@@ -15,20 +15,20 @@ use Rattle.ground.specs.Store.{written}
 use Rattle.ground.proofs.Cases.{choose}
 use Rattle.ground.proofs.StoreLaws.{written-none}
 use Rattle.ump.specs.Packet.{first, packet, size}
-use Rattle.ump.proofs.PacketLaws.{at-none, packet-near, packet-size}
+use Rattle.ump.proofs.PacketLaws.{packet-near, packet-size}
 use Rattle.stream.specs.declared.Done.{Done}
-use Rattle.stream.specs.Answers.{badAddress, cutPacket, noRoom, sent}
+use Rattle.stream.specs.Answers.{cutPacket, noRoom, sent}
 use Rattle.stream.specs.Call.{Call, answerOf, fit, leftOf, readOf, sentOf, stopped, went}
 use Rattle.stream.specs.Report.{counting, reported}
 use Rattle.stream.specs.Run.{Ran, run}
 use Rattle.stream.proofs.RunLaws.{by-first-call, words-read}
 use Rattle.stream.proofs.RunLoop.{Inside}
-use Rattle.screen.specs.Screen.{goesOn, screenBy}
-use Rattle.chains.specs.declared.Chains.{Chains}
+use Rattle.chains.specs.declared.Chain.{Chain}
 use Rattle.chains.specs.declared.Collected.{Collected}
-use Rattle.piece.specs.Piece.{chainBy, pieceIn}
-use Rattle.chains.specs.Collect.{beside, bufferAfter, bufferWith, collected, collectedOf, keptOpen, refusalOf, share}
-use Rattle.chains.specs.Collect.{sortBy, sorted}
+use Rattle.piece.specs.Piece.{chainBy}
+use Rattle.chains.specs.Collect.{bufferOf, chainAt, chainOf, chainsOf, reportOf, share}
+use Rattle.chains.proofs.TurnLaws.{refusal-cut}
+use Rattle.chains.proofs.RunLaws.{buffer-near, chain-near, report-near}
 use Rattle.chains.proofs.CollectLaws.{buffer-same}
 use Rattle.chains.proofs.WithinLaws.{reads, reads-within, stands-within}
 use Rattle.tally.specs.Tally.{counted, sortOf}
@@ -38,46 +38,44 @@ use Rattle.gather.specs.Gather.{lineAt, longest}
 use Rattle.gather.proofs.LineLaws.{line-short}
 
 -- a cut packet leaves the buffer as it was
-pub cut-kept : (cs : Chains) (b s : List ℕ) → length (packet s) ≡ 0 → bufferAfter cs b s ≡ b
-unfolding sortBy screenBy
+pub cut-kept : (cs : List Chain) (b s : List ℕ) → length (packet s) ≡ 0 → bufferOf cs b s ≡ b
 cut-kept cs b s h =
-    let e : refusalOf s ≡ cutPacket = ap (λ (p : List ℕ). sorted p .answer) (at-none (packet s) h) in
-    buffer-same cs b s (λ g. omega (arith, e, g))
+    let e = refusal-cut s h in
+    buffer-same (chainAt (chainOf s) cs) b s (λ g. omega (arith, e, g))
 
 -- what a call reports, from the words after a place: they are all the rest of the list
 pub rest-part : {A : Type 0} (i : ℕ) (l : List A) → take (length l - i) (drop i l) ≡ drop i l
 rest-part i l = take-all (length l - i) (drop i l) (omega (arith, length-drop i l))
 
-pub stands : (cs : Chains) (b s : List ℕ) (r : Collected) → r ≡ collectedOf cs b s → r .answer ≡ sent
+pub stands : (cs : List Chain) (b s : List ℕ) (r : Collected) → r ≡ reportOf cs b s → r .answer ≡ sent
     → r .start + r .length ≤ length b
 stands cs b s r e =
-    subst (λ (x : Collected). x .answer ≡ sent → x .start + x .length ≤ length b) (sym e) (stands-within cs b s)
+    subst (λ (x : Collected). x .answer ≡ sent → x .start + x .length ≤ length b) (sym e) (stands-within (chainAt
+    (chainOf s) cs) b s)
 
-pub few-read : (cs : Chains) (b s : List ℕ) (r : Collected) → r ≡ collectedOf cs b s → r .read ≤ length s
-few-read cs b s r e = subst (λ (x : Collected). x .read ≤ length s) (sym e) (reads-within cs b s)
+pub few-read : (cs : List Chain) (b s : List ℕ) (r : Collected) → r ≡ reportOf cs b s → r .read ≤ length s
+few-read cs b s r e = subst (λ (x : Collected). x .read ≤ length s) (sym e) (reads-within (chainAt (chainOf s) cs)
+    (share b) s)
 
 -- ---- the step
 
-collected-near : (cs : Chains) (b : List ℕ) (w : ℕ) (s : List ℕ)
-    → collectedOf cs b (take (size w) (w ∷ s)) ≡ collectedOf cs b (w ∷ s)
-unfolding collectedOf
-collected-near cs b w s =
-    ap (λ (p : List ℕ).
-    cond (eqb (sorted p .answer) goesOn) (collected cs b (chainBy (first p)) (length p) (pieceIn p))
-    (cond (eqb (sorted p .answer) badAddress) (keptOpen cs (share b) (chainBy (first p)) (length p))
-    (beside cs (sorted p) (length p)))) (packet-near w s)
-
-buffer-near : (cs : Chains) (b : List ℕ) (w : ℕ) (s : List ℕ)
-    → bufferAfter cs b (take (size w) (w ∷ s)) ≡ bufferAfter cs b (w ∷ s)
-unfolding bufferAfter
-buffer-near cs b w s =
-    ap (λ (p : List ℕ). cond (eqb (sorted p .answer) goesOn) (bufferWith cs b (chainBy (first p)) (pieceIn p)) b)
-    (packet-near w s)
+same-chain : (cs : List Chain) (w : ℕ) (s : List ℕ)
+    → chainAt (chainOf (take (size w) (w ∷ s))) cs ≡ chainAt (chainOf (w ∷ s)) cs
+same-chain cs w s = ap (λ (p : List ℕ). chainAt (chainBy (first p)) cs) (packet-near w s)
 
 pub gather-near : (t : ℕ × Held) (w : ℕ) (s : List ℕ) → gather t (take (size w) (w ∷ s)) ≡ gather t (w ∷ s)
 unfolding gather
 gather-near t w s =
-    rw (packet-near w s, collected-near (t .1 .chains) (t .1 .buffer) w s, buffer-near (t .1 .chains) (t .1 .buffer) w s)
+    let cs = t .1 .chains in
+    let b = t .1 .buffer in
+    let c = chainAt (chainOf (w ∷ s)) cs in
+    rw (
+      same-chain cs w s,
+      report-near c w s (share b),
+      chain-near c w s (share b),
+      buffer-near c w s b,
+      packet-near w s,
+    )
 
 whole-inside : {T : Type 0} (w : ℕ) (s : List ℕ) (c : Call T) → length (packet (w ∷ s)) ≡ size w
     → size w ≤ length (w ∷ s) → Inside (w ∷ s) c
@@ -92,7 +90,8 @@ none-inside t w s e =
 
 pub gather-inside : (t : ℕ × Held) (w : ℕ) (s : List ℕ) → Inside (w ∷ s) (gather t (w ∷ s))
 gather-inside t w s =
-    ⊎-elim (none-inside t w s) (λ h. whole-inside w s (gather t (w ∷ s)) (ap length (h .0) ∙ length-take-le (size w) (w ∷ s) (h .1)) (h .1))
+    ⊎-elim (none-inside t w s) (λ h. whole-inside w s (gather t (w ∷ s)) (ap length (h .0)
+    ∙ length-take-le (size w) (w ∷ s) (h .1)) (h .1))
     (packet-size w s)
 
 -- what a step sends has room, and it takes that much of it
@@ -139,19 +138,21 @@ module _ (h : Held) (s text : List ℕ) (d : Done) where
   abbrev pub At : Done → Held → List ℕ → Type 0
   At done h′ text′ =
       let c = gather (free, h) s in
-      (done ≡ gatheredAfter d (packet s) c) × (h′ ≡ leftOf (free, h) c .1) × (text′ ≡ written (d .written) (sentOf c) text)
+      (done ≡ gatheredAfter d (packet s) c) × (h′ ≡ leftOf (free, h) c .1) × (text′
+      ≡ written (d .written) (sentOf c) text)
 
   pub at-full : ltb free (longest (length (h .buffer))) ≡ true → At (counting noRoom (d .read) (d .written)) h text
   unfolding gather
   at-full e = rw e (rw (add-zero (d .read), add-zero (d .written)), refl, sym (written-none (d .written) text))
 
-  pub at-cut : (r : Collected) (b′ : List ℕ) → r ≡ collectedAt h s → b′ ≡ bufferAfter (h .chains) (h .buffer) s
+  pub at-cut : (r : Collected) (b′ : List ℕ) → r ≡ collectedAt h s → b′ ≡ bufferOf (h .chains) (h .buffer) s
       → ltb free (longest (length (h .buffer))) ≡ false → r .read ≡ 0
       → At (counting cutPacket (d .read) (d .written)) (held (h .chains) (h .counts) b′) text
   unfolding gather
   at-cut r b′ er eb e z =
       let k : length (packet s) ≡ 0 =
-      sym (reads (h .chains) (h .buffer) s) ∙ sym (ap (λ (x : Collected). x .read) er) ∙ z in
+      sym (reads (chainAt (chainOf s) (h .chains)) (share (h .buffer)) s)
+      ∙ sym (ap (λ (x : Collected). x .read) er) ∙ z in
       rw (e, eq-eqb (length (packet s)) 0 k) (
         rw (add-zero (d .read), add-zero (d .written)),
         ap (λ (b : List ℕ). held (h .chains) (h .counts) b) (eb ∙ cut-kept (h .chains) (h .buffer) s k),
@@ -159,17 +160,19 @@ module _ (h : Held) (s text : List ℕ) (d : Done) where
       )
 
   -- the line of the call that was made
-  pub at-one : (r : Collected) (b′ counts′ text′ : List ℕ) (end : ℕ) (done : Done) → r ≡ collectedAt h s
-      → b′ ≡ bufferAfter (h .chains) (h .buffer) s → ltb free (longest (length (h .buffer))) ≡ false
+  pub at-one : (r : Collected) (cs′ : List Chain) (b′ counts′ text′ : List ℕ) (end : ℕ) (done : Done)
+      → r ≡ collectedAt h s
+      → cs′ ≡ chainsOf (h .chains) (h .buffer) s
+      → b′ ≡ bufferOf (h .chains) (h .buffer) s → ltb free (longest (length (h .buffer))) ≡ false
       → (r .read ≡ 0 → ⊥)
       → (end ≡ placeAfter text (d .written) (lineAfter (h .chains) r b′))
       × (text′ ≡ withRow text (d .written) (lineAfter (h .chains) r b′))
       → counts′ ≡ counted (h .counts) (sortOf (r .answer) (r .place))
       → done ≡ counting (r .answer) (d .read + r .read) end
-      → At done (held (r .chains) counts′ b′) text′
+      → At done (held cs′ counts′ b′) text′
   unfolding gather
-  at-one r b′ counts′ text′ end done er eb e n l ec ed =
-      let k = reads (h .chains) (h .buffer) s in
+  at-one r cs′ b′ counts′ text′ end done er es eb e n l ec ed =
+      let k = reads (chainAt (chainOf s) (h .chains)) (share (h .buffer)) s in
       let m : length (packet s) ≡ 0 → ⊥ = λ z. n (ap (λ (x : Collected). x .read) er ∙ k ∙ z) in
       let short : length (lineAt h s) ≤ free =
       omega (arith, ltb-false free (longest (length (h .buffer))) e, line-short h s) in
@@ -181,7 +184,7 @@ module _ (h : Held) (s text : List ℕ) (d : Done) where
         ed ∙ ap (λ (x : Collected). counting (x .answer) (d .read + x .read) end) er
             ∙ ap (λ (n : ℕ). counting (collectedAt h s .answer) (d .read + n) end) k
             ∙ ap (λ (n : ℕ). counting (collectedAt h s .answer) (d .read + length (packet s)) n) (y .0),
-        rw (ec, er, eb),
+        rw (ec, es, er, eb),
         y .1 ∙ sets-eq (lineAt h s) text (d .written) (omega (arith, short, some)),
       )
 

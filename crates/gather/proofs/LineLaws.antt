@@ -1,5 +1,5 @@
--- A line is never longer than the room that is asked for: a finished chain has no more bytes than its part, the head of a
--- line has at most twelve, and the answers that drop have two digits. Assumes nothing.
+-- A line is never longer than the room that is asked for: a finished chain has no more bytes than its part, the head of
+-- a line has at most twelve, and the answers that drop have two digits. Assumes nothing.
 use Prim.Native.Nat.{ℕ, _≤_, _<_}
 use mathlib.Core.Path.{_≡_, sym, _∙_}
 use mathlib.Core.Bool.{true, false, _&&_}
@@ -11,28 +11,29 @@ use borrow.Author.Tests.{eq-eqb, eqb-true, ne-eqb}
 use Rattle.ground.proofs.Bools.{and-right}
 use Rattle.ground.proofs.Cases.{by-bool, choose, not-both}
 use Rattle.stream.specs.Answers.{outOfTurn, sent, tooLong, tooManyPackets}
-use Rattle.chains.specs.declared.Chains.{Chains}
+use Rattle.chains.specs.declared.Chain.{Chain}
 use Rattle.chains.specs.declared.Collected.{Collected}
-use Rattle.chains.specs.Collect.{bufferAfter, chainAt, chainOf, collected, collectedOf, pieceOf, share}
+use Rattle.chains.specs.Collect.{bufferOf, chainAt, chainOf, collected, pieceOf, reportOf, share}
+use Rattle.chains.specs.Run.{drops, openAt}
 use Rattle.chains.proofs.CollectLaws.{report-piece}
 use Rattle.chains.proofs.StepLaws.{step-answer, step-within}
 use Rattle.chains.proofs.WithinLaws.{finished-asked}
 use Rattle.text.specs.Messages.{droppedLine, headOf, messageLine, sortName}
 use Rattle.text.proofs.LineLaws.{few}
 use Rattle.text.proofs.MessageLaws.{dropped-length, head-most, message-length}
-use Rattle.gather.specs.Gather.{Held, bytesOf, collectedAt, drops, lineAfter, lineAt, longest, openAt}
+use Rattle.gather.specs.Gather.{Held, bytesOf, collectedAt, lineAfter, lineAt, longest}
 
 -- a finished chain has no more bytes than its part
-pub finished-short : (cs : Chains) (b s : List ℕ) → collectedOf cs b s .answer ≡ sent
-    → collectedOf cs b s .length ≤ share b
+pub finished-short : (cs : List Chain) (b s : List ℕ) → reportOf cs b s .answer ≡ sent
+    → reportOf cs b s .length ≤ share b
 unfolding collected
 finished-short cs b s h =
-    let e = finished-asked cs b s h in
     let c = chainAt (chainOf s) cs in
+    let e = finished-asked c (share b) s h in
     let x = pieceOf s in
-    let r = rw (report-piece cs b s e) at h in
+    let r = rw (report-piece c (share b) s e) at h in
     let l = step-within c (share b) x (omega (arith, sym (step-answer c (share b) x) ∙ r)) in
-    rw (report-piece cs b s e) (omega (arith, l))
+    rw (report-piece c (share b) s e) (omega (arith, l))
 
 -- the head of a line
 name-ten : (chain : ℕ) → length (sortName chain) ≤ 10
@@ -50,7 +51,7 @@ drops-few a h =
     (λ f. by-bool (eqb a tooLong) (λ g. omega (arith, eqb-true a tooLong g)) (λ g. not-both (rw (e, f, g) at h))))
 
 -- the line of a call by its answer
-module _ (before : Chains) (r : Collected) (b : List ℕ) where
+module _ (before : List Chain) (r : Collected) (b : List ℕ) where
   pub finished-line : r .answer ≡ sent → lineAfter before r b ≡ messageLine (r .chain) (bytesOf r b)
   unfolding lineAfter
   finished-line e = rw (eq-eqb (r .answer) sent e)
@@ -78,9 +79,9 @@ line-short h s =
     Short l = length l ≤ longest (length (h .buffer))
 
     finishes : eqb (r .answer) sent ≡ true
-        → Short (messageLine (r .chain) (bytesOf r (bufferAfter (h .chains) (h .buffer) s)))
+        → Short (messageLine (r .chain) (bytesOf r (bufferOf (h .chains) (h .buffer) s)))
     finishes e =
-        let b = bufferAfter (h .chains) (h .buffer) s in
+        let b = bufferOf (h .chains) (h .buffer) s in
         omega (
           arith,
           finished-short (h .chains) (h .buffer) s (eqb-true (r .answer) sent e),

@@ -1,62 +1,55 @@
 -- Whole messages as lines (RULES 14.5; 02 M-106): a call of the collector for each packet, and the line of the message
 -- that it finishes or of the open chain that it drops.
 use Prim.Native.Nat.{ℕ, _+_, _*_, _-_, _/_}
-use mathlib.Core.Bool.{Bool, cond, not, _&&_, _||_}
+use mathlib.Core.Bool.{cond, _&&_}
 use mathlib.Core.List.{List, []}
 use lib.Dec.{eqb, ltb}
 use lib.ListN.{drop, length, take}
 use Rattle.ump.specs.Packet.{cut, packet}
 use Rattle.stream.specs.declared.Done.{Done}
-use Rattle.stream.specs.Answers.{cutPacket, noRoom, outOfTurn, sent, tooLong, tooManyPackets}
+use Rattle.stream.specs.Answers.{cutPacket, noRoom, sent}
 use Rattle.stream.specs.Call.{Call, answerOf, readOf, sentOf, stopped, went}
 use Rattle.stream.specs.Report.{counting}
 use Rattle.stream.specs.Run.{Ran, run}
-use Rattle.piece.specs.Piece.{noChain}
-use Rattle.chains.specs.declared.Chains.{Chains}
+use Rattle.chains.specs.declared.Chain.{Chain}
 use Rattle.chains.specs.declared.Collected.{Collected}
-use Rattle.chains.specs.Collect.{bufferAfter, chainAt, collectedOf}
+use Rattle.chains.specs.Collect.{bufferOf, chainsOf, reportOf}
+use Rattle.chains.specs.Run.{drops, openAt}
 use Rattle.tally.specs.Tally.{counted, sortOf}
 use Rattle.text.specs.Messages.{droppedLine, messageLine}
 use Rattle.gather.specs.declared.Gathered.{Gathered}
 
 -- What goes on from one packet to the next: the chains, how often each sort of call came, and the buffer.
 pub record Held : Type 0 where
-  pub chains : Chains
+  pub chains : List Chain
   pub counts : List ℕ
   pub buffer : List ℕ
 
-abbrev pub held : Chains → List ℕ → List ℕ → Held
+abbrev pub held : List Chain → List ℕ → List ℕ → Held
 held cs counts b = record { chains = cs; counts = counts; buffer = b }
-
--- whether chain k is open; a packet of none has none
-unfoldable pub openAt : Chains → ℕ → Bool
-openAt cs k = ltb k noChain && not (eqb (chainAt k cs .packets) 0)
-
--- the answers that drop an open chain
-abbrev pub drops : ℕ → Bool
-drops a = eqb a outOfTurn || (eqb a tooManyPackets || eqb a tooLong)
 
 -- the bytes of a finished chain
 abbrev pub bytesOf : Collected → List ℕ → List ℕ
 bytesOf r b = take (r .length) (drop (r .start) b)
 
 -- The line of a call that reports r and leaves the buffer b, from the chains before it; most calls have none.
-unfoldable pub lineAfter : Chains → Collected → List ℕ → List ℕ
+unfoldable pub lineAfter : List Chain → Collected → List ℕ → List ℕ
 lineAfter before r b =
     cond (eqb (r .answer) sent) (messageLine (r .chain) (bytesOf r b))
     (cond (openAt before (r .chain) && drops (r .answer)) (droppedLine (r .answer) (r .chain)) [])
 
 -- a call at the packet that stands first in some words, and its line
 abbrev pub collectedAt : Held → List ℕ → Collected
-collectedAt h s = collectedOf (h .chains) (h .buffer) s
+collectedAt h s = reportOf (h .chains) (h .buffer) s
 
 abbrev pub lineAt : Held → List ℕ → List ℕ
-lineAt h s = lineAfter (h .chains) (collectedAt h s) (bufferAfter (h .chains) (h .buffer) s)
+lineAt h s = lineAfter (h .chains) (collectedAt h s) (bufferOf (h .chains) (h .buffer) s)
 
 abbrev pub heldAfter : Held → List ℕ → Held
 heldAfter h s =
     let r = collectedAt h s in
-    held (r .chains) (counted (h .counts) (sortOf (r .answer) (r .place))) (bufferAfter (h .chains) (h .buffer) s)
+    held (chainsOf (h .chains) (h .buffer) s) (counted (h .counts) (sortOf (r .answer) (r .place))) (bufferOf (h
+    .chains) (h .buffer) s)
 
 -- the bytes that no line is longer than: three for each byte of a part, and those of a head, an answer and the end
 abbrev pub longest : ℕ → ℕ

@@ -4,17 +4,16 @@
 // No public function has a `requires`. `gather_some` says by the run of the definitions what it reports,
 // what is held after it and what the text holds, on every input. A packet is looked at only where any line
 // would still fit, so no line is lost.
-use chains::Chains;
+use chains::CHAINS;
+use chains::Chain;
 use chains::Collected;
-use chains::collect;
-use piece::NO_CHAIN;
+use chains::call;
+use chains::is_dropping;
+use chains::slot_at;
 use stream::CUT;
 use stream::Done;
 use stream::NO_ROOM;
-use stream::OUT_OF_TURN;
 use stream::SENT;
-use stream::TOO_LONG;
-use stream::TOO_MANY_PACKETS;
 use stream::report;
 use tally::SORTS;
 use tally::one_more;
@@ -29,15 +28,22 @@ ghost use Rattle.stream.specs.Answers.{sent};
 ghost use Rattle.stream.specs.Call.{leftOf, sentOf};
 ghost use Rattle.stream.specs.Report.{reported};
 ghost use Rattle.text.specs.Lines.{placeAfter, withRow};
-ghost use Rattle.gather.specs.Gather.{drops, gatherAt, gatheredAfter, gathering, held, heldIn, lineAfter};
-ghost use Rattle.gather.specs.Gather.{longest, openAt};
+ghost use Rattle.chains.specs.Collect.{bufferOf, chainsOf, reportOf};
+ghost use Rattle.chains.specs.Run.{openAt};
+ghost use Rattle.gather.specs.Gather.{gatherAt, gatheredAfter, gathering, held, heldIn, lineAfter, longest};
 
 // The chains and the counts after some packets, and the report, which counts the bytes of the lines as
 // written.
 pub struct Gathered {
-    pub chains: Chains,
+    pub chains: [Chain; CHAINS],
     pub counts: [u64; SORTS],
     pub done: Done,
+}
+
+// A call with all chains by value: what it reports, and the chains after it.
+struct CollectedOfAll {
+    report: Collected,
+    chains: [Chain; CHAINS],
 }
 
 // Whether a text has no room for every line that the parts of a buffer can come to.
@@ -51,25 +57,39 @@ fn is_full(len: usize, to: usize, buffer: usize) -> bool
 }
 
 // Whether a chain is open; a packet of none has none.
-pub fn is_open(chains: Chains, chain: usize) -> bool
+pub fn is_open(chains: [Chain; CHAINS], chain: usize) -> bool
     ensures { λ r. ⌜ r ≡ openAt chains chain ⌝ }
 {
-    if chain < NO_CHAIN {
-        let all = chains.all;
-        let one = all[chain];
+    if chain < CHAINS {
+        let one = chains[chain];
         return !(one.packets == 0);
     }
     false
 }
 
-fn is_dropping(answer: u32) -> bool
-    ensures { λ r. ⌜ r ≡ drops answer ⌝ }
+// The call at the start of the words, with the chain of its packet.
+fn collect(chains: [Chain; CHAINS], buffer: &mut [u8], words: &[u32]) -> CollectedOfAll
+    ensures report { λ r. ⌜ r .report ≡ reportOf chains (now (buffer .entry)) (now (words .entry)) ⌝ }
+    ensures chains { λ r. ⌜ r .chains ≡ chainsOf chains (now (buffer .entry)) (now (words .entry)) ⌝ }
+    ensures buffer { λ _. ⌜ now (buffer .exit) ≡ bufferOf chains (now (buffer .entry)) (now (words .entry)) ⌝ }
 {
-    (answer == OUT_OF_TURN) | ((answer == TOO_MANY_PACKETS) | (answer == TOO_LONG))
+    let mut chains = chains;
+    let i = slot_at(words, 0);
+    let one = call(chains[i], words, buffer);
+    let after = one.chain;
+    chains[i] = after;
+    let report = one.report;
+    CollectedOfAll { report, chains }
 }
 
 // Writes the line of a call, where it has one, and answers the place after it.
-fn put_line(before: Chains, one: Collected, buffer: &[u8], text: &mut [u8], to: usize) -> usize
+fn put_line(
+    before: [Chain; CHAINS],
+    one: Collected,
+    buffer: &[u8],
+    text: &mut [u8],
+    to: usize,
+) -> usize
     requires { ⌜ (one .answer ≡ sent → one .start + one .length ≤ length (now buffer)) ⌝ }
     ensures place { λ r. ⌜ r ≡ placeAfter (now (text .entry)) to (lineAfter before one (now (buffer .entry))) ⌝ }
     ensures text { λ _. ⌜ now (text .exit)
@@ -91,7 +111,7 @@ fn put_line(before: Chains, one: Collected, buffer: &[u8], text: &mut [u8], to: 
 
 // The packet that is next in the words, after what was read and written so far.
 fn gather_one(
-    chains: Chains,
+    chains: [Chain; CHAINS],
     counts: [u64; SORTS],
     buffer: &mut [u8],
     words: &[u32],
@@ -117,7 +137,8 @@ fn gather_one(
             done: report(NO_ROOM, read, to),
         };
     }
-    let one = collect(chains, buffer, &words[read..]);
+    let all = collect(chains, buffer, &words[read..]);
+    let one = all.report;
     if one.read == 0 {
         return Gathered {
             chains,
@@ -126,7 +147,7 @@ fn gather_one(
         };
     }
     let end = put_line(chains, one, buffer, text, to);
-    let after = one.chains;
+    let after = all.chains;
     Gathered {
         chains: after,
         counts: one_more(counts, sort_of(one.answer, one.place)),
@@ -136,7 +157,7 @@ fn gather_one(
 
 // The packets of the words into their chains, until one is cut or the text has no room for every line.
 pub fn gather_some(
-    chains: Chains,
+    chains: [Chain; CHAINS],
     counts: [u64; SORTS],
     buffer: &mut [u8],
     words: &[u32],

@@ -4,13 +4,13 @@
 // A packet that straddles two reads is not cut, and input of any length is taken. What a buffer comes to
 // is said by the contracts of gather and wire. Here no contract can say what is read or written, so these
 // functions are proved to be safe and to end.
-use chains::Chains;
+use chains::CHAINS;
+use chains::Chain;
 use gather::gather_some;
 use gather::is_open;
 use libc::STDIN_FILENO;
 use libc::STDOUT_FILENO;
 use notice::Ending;
-use piece::NO_CHAIN;
 use start::Takes;
 use stream::NO_ROOM;
 use tally::SORTS;
@@ -29,7 +29,7 @@ const TEXT_BYTES: usize = 0x10000;
 // What goes on from one turn to the next. The bytes that are left stand at the front of the input. Where
 // packets among them wait for room in the text, they come before more is read.
 struct LibrarianState {
-    chains: Chains,
+    chains: [Chain; CHAINS],
     counts: [u64; SORTS],
     read: u64,
     left: usize,
@@ -77,7 +77,7 @@ fn turns(wrong: bool) -> LibrarianState {
     let mut buffer = [0u8; BUFFER_BYTES];
     let mut text = [0u8; TEXT_BYTES];
     let mut s = LibrarianState {
-        chains: chains::all_closed(),
+        chains: [chains::closed_chain(); CHAINS],
         counts: [0; SORTS],
         read: 0,
         left: 0,
@@ -94,10 +94,10 @@ fn turns(wrong: bool) -> LibrarianState {
 }
 
 // Whether any chain is open.
-fn is_any_open(chains: Chains) -> bool {
+fn is_any_open(chains: [Chain; CHAINS]) -> bool {
     let mut any = false;
     let mut i: usize = 0;
-    while i < NO_CHAIN {
+    while i < CHAINS {
         any = any | is_open(chains, i);
         i += 1;
     }

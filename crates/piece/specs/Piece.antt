@@ -8,7 +8,7 @@ use lib.ListN.{length, getD, take}
 use lib.Dec.{eqb, leb}
 use Rattle.ump.specs.Word.{bits, byte1, byte2, byte3, byte4, count, groupOf, messageType, status}
 use Rattle.ump.specs.Packet.{first, second}
-use Rattle.piece.specs.declared.Piece.{Piece}
+use Rattle.piece.specs.declared.Head.{Head}
 
 -- the message types of exclusives and of Flex Data
 abbrev pub exclusive : ℕ
@@ -57,6 +57,23 @@ chainFor t group = cond (eqb t exclusive) group (cond (eqb t flex) (16 + group) 
 abbrev pub chainBy : ℕ → ℕ
 chainBy w = chainFor (messageType w) (groupOf w .0)
 
+-- where the chain of a packet's group stands among the 32, for a packet of another type as for an exclusive
+unfoldable pub slotBy : ℕ → ℕ
+slotBy w = cond (eqb (messageType w) flex) (16 + groupOf w .0) (groupOf w .0)
+
+-- A piece: its place in the message, the fields that it shares with the others, what it adds to the number of packets,
+-- which only Flex Data counts, and its bytes, the first `count` of the twelve.
+pub record Piece : Type 0 where
+  pub format : ℕ
+  pub shared : ℕ
+  pub adds : ℕ
+  pub count : ℕ
+  pub bytes : List ℕ
+
+-- all but the bytes
+abbrev pub headOf : Piece → Head
+headOf x = record { format = x .format; shared = x .shared; adds = x .adds; count = x .count }
+
 -- the bytes of a word, and others behind them
 abbrev pub wordBytes : ℕ → List ℕ → List ℕ
 wordBytes w s = byte1 w ∷ byte2 w ∷ byte3 w ∷ byte4 w ∷ s
@@ -85,6 +102,10 @@ pieceFor t w a b c = cond (eqb t flex) (flexPiece w a b c) (exclusivePiece w a)
 -- of a packet
 abbrev pub pieceIn : List ℕ → Piece
 pieceIn p = pieceFor (messageType (first p)) (first p) (second p) (getD p 2 0) (getD p 3 0)
+
+-- what its first word says of it, whatever words follow
+abbrev pub headBy : ℕ → Head
+headBy w = headOf (pieceFor (messageType w) w 0 0 0)
 
 -- the bytes that it carries
 abbrev pub payload : Piece → List ℕ

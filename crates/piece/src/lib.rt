@@ -1,24 +1,26 @@
 // What a packet carries of a longer message: exclusives and Flex Data come in pieces, each with its place
-// in the message and its bytes, and go to the chain of their sort and group.
+// in the message and its bytes, and go to the chain of their sort and group. All but the bytes is read from
+// the packet's first word.
 //
 // Every function is total, and says what it finds by a definition of specs/.
 use ump::Group;
-use ump::byte1;
-use ump::byte2;
-use ump::byte3;
-use ump::byte4;
 use ump::message_type;
-use ump::word_at;
 ghost use mathlib.Core.Path.{_≡_};
 ghost use Prim.Native.Nat.{min};
-ghost use Rattle.piece.specs.Piece.{addressOf, chainBy, chainFor, exclusiveBytes, exclusivePiece, flexBytes};
-ghost use Rattle.piece.specs.Piece.{flexPiece, formatOf, pieceFor, pieceIn, sharedOf, strangeAddress};
+ghost use Rattle.piece.specs.Piece.{addressOf, exclusivePiece, flexPiece, formatOf, headBy, headOf, sharedOf};
+ghost use Rattle.piece.specs.Piece.{slotBy, strangeAddress};
 
 // The message type of exclusives.
-const EXCLUSIVE: u32 = 3;
+pub const EXCLUSIVE: u32 = 3;
 
 // The message type of Flex Data.
-const FLEX: u32 = 13;
+pub const FLEX: u32 = 13;
+
+// So many bytes a piece of an exclusive has at most.
+pub const EXCLUSIVE_BYTES: usize = 6;
+
+// So many bytes a piece of Flex Data has.
+pub const FLEX_BYTES: usize = 12;
 
 // A piece that is a whole message.
 pub const COMPLETE: u32 = 0;
@@ -32,14 +34,13 @@ pub const END: u32 = 3;
 // Stands for the chain of a packet that belongs to none.
 pub const NO_CHAIN: usize = 32;
 
-// A piece: its place in the message, the fields that it shares with the others, what it adds to the number
-// of packets, which only Flex Data counts, and its bytes, the first `count` of the twelve.
-pub struct Piece {
+// All of a piece but its bytes: its place in the message, the fields that it shares with the others, what
+// it adds to the number of packets, which only Flex Data counts, and how many bytes it has.
+pub struct Head {
     pub format: u32,
     pub shared: u32,
     pub adds: u32,
     pub count: usize,
-    pub bytes: [u8; 12],
 }
 
 // Of Flex Data, the place in the message: bits 23 and 22.
@@ -70,24 +71,18 @@ pub fn has_strange_address(w: u32) -> bool
     (message_type(w) == FLEX) & (2 <= address(w))
 }
 
-fn chain_for(t: u32, group: Group) -> usize
-    ensures { λ r. ⌜ r ≡ chainFor t (group .0) ⌝ }
+// Where the chain of a packet's group stands among the 32, by its first word: those of Flex Data behind
+// those of exclusives. A packet of another type has a place there too, and no chain.
+pub fn slot_of(w: u32) -> usize
+    ensures { λ r. ⌜ r ≡ slotBy w ⌝ }
 {
+    let group = ump::group_of(w);
     let g = group.0;
-    if t == EXCLUSIVE {
-        return g as usize;
+    if message_type(w) == FLEX {
+        16 + g as usize
+    } else {
+        g as usize
     }
-    if t == FLEX {
-        return 16 + g as usize;
-    }
-    NO_CHAIN
-}
-
-// The chain that a packet belongs to, by its first word.
-pub fn chain_of(w: u32) -> usize
-    ensures { λ r. ⌜ r ≡ chainBy w ⌝ }
-{
-    chain_for(message_type(w), ump::group_of(w))
 }
 
 fn least(a: usize, b: usize) -> usize
@@ -96,89 +91,37 @@ fn least(a: usize, b: usize) -> usize
     if a < b { a } else { b }
 }
 
-fn exclusive_bytes(w: u32, v: u32) -> [u8; 12]
-    ensures { λ r. ⌜ r ≡ exclusiveBytes w v ⌝ }
+// An exclusive has nothing to share, and its packets are not counted. A count above six is refused before it
+// is asked here.
+fn exclusive_head(w: u32) -> Head
+    ensures { λ r. ⌜ r ≡ headOf (exclusivePiece w 0) ⌝ }
 {
-    [
-        byte3(w),
-        byte4(w),
-        byte1(v),
-        byte2(v),
-        byte3(v),
-        byte4(v),
-        0,
-        0,
-        0,
-        0,
-        0,
-        0,
-    ]
-}
-
-fn flex_bytes(a: u32, b: u32, c: u32) -> [u8; 12]
-    ensures { λ r. ⌜ r ≡ flexBytes a b c ⌝ }
-{
-    [
-        byte1(a),
-        byte2(a),
-        byte3(a),
-        byte4(a),
-        byte1(b),
-        byte2(b),
-        byte3(b),
-        byte4(b),
-        byte1(c),
-        byte2(c),
-        byte3(c),
-        byte4(c),
-    ]
-}
-
-// The first two words of an exclusive's packet. A count above six is refused before it is asked here.
-fn exclusive_piece(w: u32, v: u32) -> Piece
-    ensures { λ r. ⌜ r ≡ exclusivePiece w v ⌝ }
-{
-    Piece {
+    Head {
         format: ump::status(w),
         shared: 0,
         adds: 0,
-        count: least(ump::count(w) as usize, 6),
-        bytes: exclusive_bytes(w, v),
+        count: least(ump::count(w) as usize, EXCLUSIVE_BYTES),
     }
 }
 
-fn flex_piece(w: u32, a: u32, b: u32, c: u32) -> Piece
-    ensures { λ r. ⌜ r ≡ flexPiece w a b c ⌝ }
+fn flex_head(w: u32) -> Head
+    ensures { λ r. ⌜ r ≡ headOf (flexPiece w 0 0 0) ⌝ }
 {
-    Piece {
+    Head {
         format: format(w),
         shared: shared(w),
         adds: 1,
-        count: 12,
-        bytes: flex_bytes(a, b, c),
+        count: FLEX_BYTES,
     }
 }
 
-fn piece_for(t: u32, w: u32, a: u32, b: u32, c: u32) -> Piece
-    ensures { λ r. ⌜ r ≡ pieceFor t w a b c ⌝ }
+// What a packet's first word says of its piece.
+pub fn head_of(w: u32) -> Head
+    ensures { λ r. ⌜ r ≡ headBy w ⌝ }
 {
-    if t == FLEX {
-        flex_piece(w, a, b, c)
+    if message_type(w) == FLEX {
+        flex_head(w)
     } else {
-        exclusive_piece(w, a)
+        exclusive_head(w)
     }
-}
-
-// The piece in a packet's words.
-pub fn piece_of(packet: &[u32]) -> Piece
-    ensures { λ r. ⌜ r ≡ pieceIn (now (packet .entry)) ⌝ }
-{
-    let w = word_at(packet, 0);
-    piece_for(
-        message_type(w),
-        w,
-        word_at(packet, 1),
-        word_at(packet, 2),
-        word_at(packet, 3),
-    )
 }

@@ -4,3 +4,6 @@ pub mod Marked
 pub mod HandedOn
 pub mod HostHanded
 pub mod HostMarked
+pub mod ChainValues
+pub mod ChainCalls
+pub mod ChainTurns

@@ -5,13 +5,15 @@
 //
 // No function has a `requires`. Each contract gives the report, the table and the output at exit by
 // the definitions of the crates below, on every input.
+mod messages;
 mod sockets;
 
-use chains::Chains;
-use chains::Collected;
 use channel::Record;
 use identity::Identity;
 use identity::Maker;
+pub use messages::quernbrae_chain_closed;
+pub use messages::quernbrae_collect;
+pub use messages::quernbrae_run_collect;
 use question::KeysDown;
 pub use sockets::quernbrae_cable_idle;
 pub use sockets::quernbrae_export;
@@ -32,7 +34,6 @@ ghost use Rattle.mark.specs.Mark.{markAnswer, tableMarked};
 ghost use Rattle.hosts.specs.Hosts.{hostKeysAsked, hostMarkAnswer, hostOneDown, hostOneUp, hostRunDown, hostRunUp};
 ghost use Rattle.hosts.specs.Hosts.{hostTableMarked};
 ghost use Rattle.handover.specs.Handover.{giveAnswer, ownersAfter, tableGiven};
-ghost use Rattle.chains.specs.Collect.{allClosed, bufferAfter, collectedOf};
 ghost use Rattle.identity.specs.Identity.{identityFrom, makerFrom, newOf, oldOf};
 ghost use Rattle.lesson.specs.Lesson.{lesson, lessonReport};
 ghost use Rattle.voice.specs.Packet.{oneDown, runDown};
@@ -322,24 +323,6 @@ pub extern "C" fn quernbrae_give_group(
     let given = handover::give(owners, table.len(), group, host);
     handover::empty_from(table, given.from, given.count);
     given.answer
-}
-
-// The chains before the first packet: none is open.
-#[no_mangle]
-pub extern "C" fn quernbrae_chains_closed() -> Chains
-    ensures { λ r. ⌜ r ≡ allClosed ⌝ }
-{
-    chains::all_closed()
-}
-
-// One call of the collector: the packet at the start of the words goes into its chain, whose bytes stand
-// in the buffer.
-#[no_mangle]
-pub extern "C" fn quernbrae_collect(chains: Chains, buffer: &mut [u8], words: &[u32]) -> Collected
-    ensures report { λ r. ⌜ r ≡ collectedOf chains (now (buffer .entry)) (now (words .entry)) ⌝ }
-    ensures buffer { λ _. ⌜ now (buffer .exit) ≡ bufferAfter chains (now (buffer .entry)) (now (words .entry)) ⌝ }
-{
-    chains::collect(chains, buffer, words)
 }
 
 // The form of 16 bits of a maker identity, from its bytes.

@@ -9,7 +9,7 @@ use borrow.Author.Needs.{needs}
 use denote.Ref.{now}
 use lib.Dec.{ltb}
 use lib.ListN.{drop, length, length-drop}
-use Rattle.chains.specs.Collect.{bufferAfter, collectedOf}
+use Rattle.chains.specs.Collect.{bufferOf, chainsOf, reportOf}
 use Rattle.tally.specs.Tally.{counted}
 use Rattle.gather.specs.Gather.{Held, held, longest}
 use Rattle.gather.proofs.GatherLaws.{at-cut, at-full, at-one, few-read, rest-part, stands}
@@ -28,8 +28,9 @@ rest s = drop (s .args .past .read) (now (s .args .words))
 
 -- the call that was made
 called : (k : tie.After-collect) → let a = start k .args in
-    (k .collect .result ≡ collectedOf (a .chains) (now (a .buffer)) (rest (start k)))
-    × (k .collect .last .1 .0 ≡ bufferAfter (a .chains) (now (a .buffer)) (rest (start k)))
+    (k .collect .result .report ≡ reportOf (a .chains) (now (a .buffer)) (rest (start k)))
+    × ((k .collect .result .chains ≡ chainsOf (a .chains) (now (a .buffer)) (rest (start k)))
+    × (k .collect .last .1 .0 ≡ bufferOf (a .chains) (now (a .buffer)) (rest (start k))))
 called k =
     let a = start k .args in rw (rest-part (a .past .read) (now (a .words))) at (k .collect .ensures)
 
@@ -41,36 +42,39 @@ roomy k = sym (k .before .before .before .before .is-full .ensures) ∙ k .befor
 returns : tie.Need-returns
 returns c =
     let s = c .before .before .before .before .before .before in
-    let z = at-full (before s) (rest s) (now (s .args .text)) (s .args .past) (sym (c .before .before .is-full .ensures) ∙ c .before .if1 .taken) in
+    let z = at-full (before s) (rest s) (now (s .args .text)) (s .args .past) (sym (c .before .before .is-full
+    .ensures) ∙ c .before .if1 .taken) in
     (c .report .ensures ∙ z .0, (z .1, z .2))
 
 returns-2 : tie.Need-returns-2
 returns-2 c =
-    let k = c .before .before .before .before .before in
+    let k = c .before .before .before .before .before .before in
     let s = start k in
     let e = called k in
-    let z = at-cut (before s) (rest s) (now (s .args .text)) (s .args .past) _ _ (e .0) (e .1) (roomy k) (c .before .if2 .taken) in
+    let z = at-cut (before s) (rest s) (now (s .args .text)) (s .args .past) _ _ (e .0) (e .1 .1) (roomy k) (c .before
+    .if2 .taken) in
     (c .report2 .ensures ∙ z .0, (z .1, z .2))
 
 put-line-requires : tie.Need-put-line-requires
 put-line-requires c κs =
-    let k = c .before .before .before .before .before .before in
+    let k = c .before .before .before .before .before .before .before in
     let a = start k .args in
     λ h. omega (
       arith,
-      stands (a .chains) (now (a .buffer)) (rest (start k)) (k .collect .result) (called k .0) h,
+      stands (a .chains) (now (a .buffer)) (rest (start k)) (k .collect .result .report) (called k .0) h,
       k .collect .kept .1 .0,
     )
 
 add-report : tie.Need-add-report
 add-report c =
-    let k = c .before .before .before .before .before .before .before .before .before .before .before .before .before in
+    let k = c .before .before .before .before .before .before .before .before .before .before .before .before .before
+    .before in
     let s = start k in
     let a = s .args in
     record {
       fits = omega (
         arith,
-        few-read (a .chains) (now (a .buffer)) (rest s) (k .collect .result) (called k .0),
+        few-read (a .chains) (now (a .buffer)) (rest s) (k .collect .result .report) (called k .0),
         length-drop (a .past .read) (now (a .words)),
         s .pre,
       );
@@ -78,11 +82,14 @@ add-report c =
 
 returns-3 : tie.Need-returns-3
 returns-3 c =
-    let k = c .before .before .before .before .before .before .before .before .before .before .before .before .before .before in
+    let k = c .before .before .before .before .before .before .before .before .before .before .before .before .before
+    .before .before in
     let s = start k in
     let e = called k in
-    let m = c .before .before .one-more .ensures ∙ ap (counted (s .args .counts)) (c .before .before .before .sort-of .ensures) in
-    let z = at-one (before s) (rest s) (now (s .args .text)) (s .args .past) _ _ _ _ _ _ (e .0) (e .1) (roomy k) (c .before .before .before .before .before .before .before .before .before .before .if2 .left)
+    let m = c .before .before .one-more .ensures ∙ ap (counted (s .args .counts)) (c .before .before .before .sort-of
+    .ensures) in
+    let z = at-one (before s) (rest s) (now (s .args .text)) (s .args .past) _ _ _ _ _ _ _ (e .0) (e .1 .0) (e .1 .1)
+    (roomy k) (c .before .before .before .before .before .before .before .before .before .before .if2 .left)
     (c .before .before .before .before .before .before .before .put-line .ensures) m (c .report3 .ensures) in
     (z .0, (z .1, z .2))
 

@@ -2,7 +2,7 @@
 use mathlib.Core.Path.{refl}
 use borrow.Author.Needs.{needs}
 use borrow.Author.Tests.{le-ltb, lt-ltb}
-use Rattle.gather.specs.Gather.{openAt}
+use Rattle.chains.specs.Run.{openAt}
 use Rattle.gather.proofs.is_open.Statement.{statement}
 use Rattle.gather.proofs.is_open.Tie as tie
 
@@ -12,5 +12,5 @@ is-open-spec =
     tie.close
     (tie.spec
     (λ c. search needs) (λ c. search needs)
-    (λ c. let a = c .before .before .before .before .args in rw (lt-ltb (a .chain) 32 (c .before .before .before .if1 .taken)) refl)
+    (λ c. let a = c .before .before .before .args in rw (lt-ltb (a .chain) 32 (c .before .before .if1 .taken)) refl)
     (λ c. let a = c .before .args in rw (le-ltb (a .chain) 32 (c .if1 .left)) refl))
