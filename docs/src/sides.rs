@@ -9,29 +9,26 @@ use std::hint::black_box;
 /// Makes the sides from a list of the header's signatures, each with the functions that have it: the
 /// reading's name, and the product's.
 macro_rules! sides {
-    ($(
-        $signature:ident $lent:tt -> $report:ty: $($(#[$when:meta])? $name:ident $full_name:ident)*;
-    )*) => {
-        $(#[cfg_attr(not(collector), allow(dead_code))]
-        pub type $signature = unsafe extern "C" fn $lent -> $report;)*
+    ($($signature:ident $lent:tt -> $report:ty: $($name:ident $full_name:ident)*;)*) => {
+        $(pub type $signature = unsafe extern "C" fn $lent -> $report;)*
 
         #[link(name = "quernbrae", kind = "static")]
         extern "C" {
-            $($($(#[$when])? fn $full_name $lent -> $report;)*)*
+            $($(fn $full_name $lent -> $report;)*)*
         }
 
         /// The functions of one side.
         #[derive(Clone, Copy)]
         pub struct Side {
-            $($($(#[$when])? pub $name: $signature,)*)*
+            $($(pub $name: $signature,)*)*
         }
 
         pub fn product() -> Side {
-            Side { $($($(#[$when])? $name: black_box($full_name as $signature),)*)* }
+            Side { $($($name: black_box($full_name as $signature),)*)* }
         }
 
         pub fn reading() -> Side {
-            Side { $($($(#[$when])? $name: black_box(as_c::$name as $signature),)*)* }
+            Side { $($($name: black_box(as_c::$name as $signature),)*)* }
         }
     };
 }
@@ -125,10 +122,10 @@ sides! {
         buffer: *mut u8, buffer_len: usize,
         words: *const u32, words_len: usize
     ) -> Collected:
-        #[cfg(collector)] collect quernbrae_collect
-        #[cfg(collector)] run_collect quernbrae_run_collect;
+        collect quernbrae_collect
+        run_collect quernbrae_run_collect;
     ChainClosed() -> Chain:
-        #[cfg(collector)] chain_closed quernbrae_chain_closed;
+        chain_closed quernbrae_chain_closed;
 }
 
 /// The two lists of a host's calls: whose call it is, and who has which group.
@@ -286,7 +283,6 @@ pub fn begin<T>(call: unsafe extern "C" fn() -> T) -> T {
     black_box(unsafe { call() })
 }
 
-#[cfg(collector)]
 #[inline(always)]
 pub fn gather(call: Collect, chains: &mut [Chain], buffer: &mut [u8], words: &[u32]) -> Collected {
     let (chains, chains_len) = (chains.as_mut_ptr(), chains.len());

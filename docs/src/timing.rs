@@ -3,7 +3,6 @@
 //! Usage: timing [PART]; with a part only the rows that have it in their name
 
 mod cable_traffic;
-#[cfg(collector)]
 mod chain_traffic;
 // Not every sort of packet is timed.
 #[allow(dead_code)]
@@ -11,7 +10,6 @@ mod packets;
 mod rows;
 mod sides;
 mod timed_cables;
-#[cfg(collector)]
 mod timed_collector;
 mod timed_questions;
 mod timed_streams;
@@ -42,12 +40,10 @@ fn main() {
     let sides = [sides::product(), sides::reading()];
     let streams = Streams::new();
     let cables = timed_cables::Cables::new();
-    #[cfg(collector)]
     let messages = timed_collector::Messages::new();
     let questions = timed_questions::Questions::new();
     let mut rows = timed_streams::rows(&streams);
     rows.extend(timed_cables::rows(&cables));
-    #[cfg(collector)]
     rows.extend(timed_collector::rows(&messages));
     rows.extend(timed_questions::rows(&questions));
     rows.retain(|row| row.name().contains(&part));

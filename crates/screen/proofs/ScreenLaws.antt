@@ -1,26 +1,25 @@
 -- Laws of the screening: a MIDI 1.0 voice message is screened by its one word; only a cut packet is refused by an answer
 -- that stops a run; the place goes with the answer; what passes, also under a rule. Assumes nothing.
-use mathlib.Core.Path.{_≡_, refl, sym, ap, _∙_}
-use mathlib.Core.Bool.{Bool, true, false, true≢false, cond, not, _&&_}
+use mathlib.Core.Path.{_≡_, refl, sym, _∙_}
+use mathlib.Core.Bool.{Bool, true, false, true≢false, cond, not}
 use mathlib.Core.List.{List, [], _∷_}
 use Prim.Native.Nat.{ℕ}
 use native.Mathlib.Omega.{arith}
 use lib.Dec.{eqb, leb}
 use lib.ListN.{length}
-use borrow.Author.Tests.{eqb-false, eqb-true, ne-eqb}
-use Rattle.ground.proofs.Bools.{and-left, and-right, neither-left, neither-right}
+use borrow.Author.Tests.{eqb-false, eqb-true}
+use Rattle.ground.proofs.Bools.{neither-left, neither-right}
 use Rattle.ground.proofs.Cases.{by-bool, choose, not-both}
 use Rattle.ump.specs.Word.{messageType, voice2}
 use Rattle.ump.specs.Packet.{first, second}
 use Rattle.ump.proofs.PacketLaws.{at-none}
-use Rattle.stream.specs.Answers.{badData, badStatus, cutPacket, notForRoom, notSound, notYours, reservedType, stopsRun}
+use Rattle.stream.specs.Answers.{badData, badStatus, cutPacket, notForRoom, notYours, reservedType, stopsRun}
 use Rattle.stream.specs.Answers.{takenIn, wrongProtocol}
 use Rattle.stream.specs.Call.{Call, refused}
 use Rattle.stream.specs.Report.{placeTold}
 use Rattle.screen.specs.declared.Rule.{Rule}
 use Rattle.screen.specs.declared.Screened.{Screened}
-use Rattle.fields.specs.Check.{Field, badPlace, badPlaceOf, checkedFields, goodFields, goodStatus, goodUnchanged}
-use Rattle.fields.specs.Check.{unchanged, voice1Fields, voice1Status}
+use Rattle.fields.specs.Check.{Field, badPlace, badPlaceOf, checkedFields, goodFields, goodStatus, unchanged}
 use Rattle.screen.specs.Screen.{admitted, answering, beginnersRule, checkVoice1, checking, forBeginners}
 use Rattle.screen.specs.Screen.{fencedRule, goesOn, outside, reserved, ruled, screen, screenBy, screenVoice1, screened}
 
@@ -40,43 +39,12 @@ unfolding screenVoice1
 screen-word rule w h =
     by-bool (ruled rule) (λ e. rw e) (λ e. rw e (sym (screen-voice1 w h) ∙ sym (unruled rule voice2 (w ∷ []) e)))
 
--- its check finds nothing exactly where its status and its fields are good
-pub voice1-answer : (w : ℕ) → eqb (checkVoice1 w .answer) goesOn ≡ (voice1Status w && goodFields (voice1Fields w))
-unfolding checkVoice1
-voice1-answer w = go (voice1Status w) (eqb (badPlace (voice1Fields w)) 0)
-  where
-    go : (s f : Bool)
-        → eqb (cond (not s) (answering badStatus) (cond f (answering goesOn) (record { answer = badData; place = badPlace (voice1Fields w) })) .answer) goesOn
-        ≡ (s && f)
-    go true true = refl
-    go true false = refl
-    go false true = refl
-    go false false = refl
-
--- the same under any rule, where that asks nothing
-pub unruled-word : (rule : Rule) (w : ℕ) → ruled rule ≡ false → screenVoice1 rule w ≡ checkVoice1 w
-unfolding screenVoice1
-unruled-word rule w e = rw e
-
 -- no type that is passed on unchanged is reserved
 pub unchanged-free : (t : ℕ) → unchanged t ≡ true → reserved t ≡ false
 unchanged-free t h =
     by-bool (eqb t 0) (λ e. rw (eqb-true t 0 e)) (λ a. by-bool (eqb t 1) (λ e. rw (eqb-true t 1 e))
     (λ b. by-bool (eqb t 3) (λ e. rw (eqb-true t 3 e)) (λ c. by-bool (eqb t 5) (λ e. rw (eqb-true t 5 e))
     (λ d. by-bool (eqb t 13) (λ e. rw (eqb-true t 13 e)) (λ f. rw (eqb-true t 15 (rw (a, b, c, d, f) at h)))))))
-
--- a packet that is passed on unchanged goes on where it is good and no rule asks anything
-pub unchanged-goes : (rule : Rule) (wrong : ℕ) (p : List ℕ) → ruled rule ≡ false → unchanged wrong ≡ false
-    → eqb (length p) 0 ≡ false → goodUnchanged (first p) (second p) ≡ true → screenBy rule wrong p ≡ answering goesOn
-unfolding screenBy outside admitted goodUnchanged
-unchanged-goes rule wrong p e n some h =
-    let u = messageType (first p) in
-    let s = goodStatus (first p) in
-    let f = goodFields (checkedFields (first p) (second p)) in
-    let t = and-left (unchanged u) (s && f) h in
-    let g = and-right (unchanged u) (s && f) h in
-    unruled rule wrong p e
-    ∙ rw (some, unchanged-free u t, ne-eqb u wrong (λ q. true≢false (sym t ∙ ap unchanged q ∙ n)), and-left s f g, and-right s f g)
 
 -- what a good packet is answered with goes on, or is not for this room
 admits : (P : ℕ → Type 0) (rule : Rule) (w : ℕ) → P goesOn → P notForRoom → P (admitted rule w)
@@ -119,12 +87,6 @@ pub cut-only : (rule : Rule) (wrong : ℕ) (p : List ℕ) → stopsRun (screenBy
 cut-only rule wrong p =
     screens (λ (s : Screened). stopsRun (s .answer) ≡ true → p ≡ []) rule wrong p
     (λ e _. e) not-both not-both not-both not-both (λ _. not-both) not-both not-both
-
--- it asks no record
-pub asks-no-record : (rule : Rule) (wrong : ℕ) (p : List ℕ) → eqb (screenBy rule wrong p .answer) notSound ≡ false
-asks-no-record rule wrong p =
-    screens (λ (s : Screened). eqb (s .answer) notSound ≡ false) rule wrong p (λ _. refl) refl refl refl refl (λ _. refl)
-    refl refl
 
 -- a refusal is neither `sent` nor `takenIn`
 abbrev Above : Screened → Type 0
@@ -169,15 +131,6 @@ passed rule wrong p =
     go false false false false true false x y z i v u h = absurd (omega (arith, h))
     go false false false false true true x y z i v u h =
         record { some = x; free = y; right = z; inside = i; status = v; data-fields = u }
-
--- a MIDI 1.0 voice message that goes on under a rule goes on without one
-pub bad-word : (rule : Rule) (w : ℕ) → messageType w ≡ 2 → eqb (checkVoice1 w .answer) goesOn ≡ false
-    → eqb (screenVoice1 rule w .answer) goesOn ≡ false
-unfolding goodStatus checkedFields
-bad-word rule w h n =
-    ne-eqb (screenVoice1 rule w .answer) goesOn (λ e.
-    let q = passed rule voice2 (w ∷ []) (rw (screen-word rule w h) at e) in
-    true≢false (sym (rw (rw h at (q .status), rw h at (q .data-fields)) at (voice1-answer w)) ∙ n))
 
 -- under the beginners' rule what is for that room is screened as without a rule; and what is not goes nowhere
 pub for-room : (wrong : ℕ) (p : List ℕ) → forBeginners (first p) ≡ true → screenBy beginnersRule wrong p ≡ screen wrong p

@@ -17,10 +17,9 @@ use ump::message_type;
 use ump::word_at;
 ghost use mathlib.Core.Path.{_≡_};
 ghost use Prim.Native.Nat.{_<_};
-ghost use lib.Dec.{eqb};
 ghost use Rattle.fields.specs.Check.{checkedFields, goodStatus};
 ghost use Rattle.screen.specs.Screen.{admitted, answering, beginnersController};
-ghost use Rattle.screen.specs.Screen.{checkVoice1, checking, forBeginners, goesOn, groupBit, grouped};
+ghost use Rattle.screen.specs.Screen.{checkVoice1, checking, forBeginners, groupBit, grouped};
 ghost use Rattle.screen.specs.Screen.{openRule, outside, placed, reserved, screenBy};
 ghost use Rattle.screen.specs.Screen.{ruled, screenVoice1};
 ghost use Rattle.screen.specs.Downward.{letsDown};
@@ -168,13 +167,6 @@ fn check_voice1(w: u32) -> Screened
     } else {
         finding(BAD_STATUS)
     }
-}
-
-// Whether a MIDI 1.0 voice message goes on where no rule asks anything: the check without what it finds.
-pub fn voice1_goes_on(w: u32) -> bool
-    ensures { λ r. ⌜ r ≡ eqb (checkVoice1 w .answer) goesOn ⌝ }
-{
-    fields::is_voice1_status(w) & fields::is_good_voice1(w)
 }
 
 // A packet, or the empty part where none is whole, where voice messages of the type `wrong` are
