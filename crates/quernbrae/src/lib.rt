@@ -1,9 +1,9 @@
 // What a caller uses: one call and a run, up and down, over the table that the caller lends, what may
 // be asked of the table, its coarse marks, all that for two hosts that share it, one channel's packets
 // alone, whole messages out of packets, and maker identities, under the names that C and Rust link
-// (include/quernbrae.h). The five-pin sockets stand in a file of their own.
+// (include/quernbrae.h). The five-pin sockets and whole messages stand in files of their own.
 //
-// No function has a `requires`. Each contract gives the report, the table and the output at exit by
+// No function that is exported has a `requires`. Each contract gives the report, the table and the output at exit by
 // the definitions of the crates below, on every input.
 mod messages;
 mod sockets;
