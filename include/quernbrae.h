@@ -30,7 +30,8 @@ enum {
     QUERNBRAE_NOT_SOUND = 8,      /* going up, and of a mark: the record of the channel breaks 5.2; from a cable: what
                                    * is remembered of it breaks 12.1 */
     QUERNBRAE_NO_ROOM = 9,        /* the output cannot hold what the packet sends (3.4) */
-    QUERNBRAE_NO_TABLE = 10,      /* the table has more or fewer than 256 records */
+    QUERNBRAE_NO_TABLE = 10,      /* the table has more or fewer than 256 records; of the collector: the list has more
+                                   * or fewer than 32 chains (14.3) */
     QUERNBRAE_DROPPED = 11,       /* from a cable: a byte or a message is dropped (12.2) */
     QUERNBRAE_CUT_OFF = 12,       /* from a cable: an exclusive is cut off, and its closing packet sent (12.2) */
     QUERNBRAE_NOT_YOURS = 13,     /* of a host: the group is not its own (2.6) */
