@@ -19,7 +19,7 @@ pub const TOO_LONG: u32 = 18;
 pub const NO_CHAIN: usize = 32;
 
 /// So many packets a chain of Flex Data has at most.
-const FLEX_PACKETS: u32 = 32;
+pub const FLEX_PACKETS: u32 = 32;
 
 /// The part of each chain in the program.
 const PROGRAM_PART: usize = 2048;
@@ -37,7 +37,6 @@ pub struct Chain {
 }
 
 /// The exclusives of the groups 0 to 15, then their Flex Data.
-#[repr(C)]
 #[derive(Clone, Copy, Debug, PartialEq, Eq)]
 pub struct Chains {
     pub all: [Chain; 32],
@@ -45,7 +44,6 @@ pub struct Chains {
 
 /// The answer for a packet, the place of bad data, the words read, and the chains after it.
 /// For a packet of a chain also that chain's number, where its part starts, and its length.
-#[repr(C)]
 #[derive(Clone, Copy, Debug, PartialEq, Eq)]
 pub struct Collected {
     pub answer: u32,
@@ -57,7 +55,8 @@ pub struct Collected {
     pub chains: Chains,
 }
 
-const CLOSED: Chain = Chain {
+/// A chain of which none was ever open.
+pub const CLOSED: Chain = Chain {
     length: 0,
     shared: 0,
     packets: 0,

@@ -1,7 +1,10 @@
 //! Whole messages out of packets, over a list of chains and a buffer that are lent: the collector and
 //! its run, written for speed. What it does is what the plain one does, and tests hold it to that.
 
-use crate::chains::{Chain, BAD_ADDRESS, NO_CHAIN, OUT_OF_TURN, TOO_LONG, TOO_MANY_PACKETS};
+pub use crate::chains::CLOSED;
+use crate::chains::{
+    Chain, BAD_ADDRESS, FLEX_PACKETS, NO_CHAIN, OUT_OF_TURN, TOO_LONG, TOO_MANY_PACKETS,
+};
 use crate::{
     bad_data, check_packet, check_two_words, size, BAD_DATA, COMPLETE, CUT, END, SENT, START,
     TAKEN_IN,
@@ -13,16 +16,6 @@ mod tests;
 
 /// The list of chains is longer or shorter than it must be.
 const NOT_32_CHAINS: u32 = 10;
-
-/// So many packets a chain of Flex Data has at most.
-const FLEX_PACKETS: u32 = 32;
-
-/// A chain of which none was ever open.
-pub const CLOSED: Chain = Chain {
-    length: 0,
-    shared: 0,
-    packets: 0,
-};
 
 /// The answer for a packet or of a run, the place of bad data, and the words read. For a packet of a
 /// chain also that chain's number, where its part starts, and its length.
