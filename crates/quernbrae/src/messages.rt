@@ -1,5 +1,6 @@
 // Whole messages out of packets, over the list of chains and the buffer that the caller lends: each call
-// and each turn of a run reads the chain of its packet and stores it again only where it was asked.
+// and each turn of a run reads the chain of its packet. A call stores it again, a turn only where the chain
+// was asked.
 use chains::CHAINS;
 use chains::Chain;
 use chains::Collected;
