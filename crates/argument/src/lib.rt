@@ -4,6 +4,8 @@
 // `channel_named`, `number_in` and `units_in` have no `requires`. They say which channel and which number
 // a row of bytes names, and that it names none where anything but numbers of at most 15, and between two of them
 // one colon, stands in it, for every row of bytes.
+#![tactic(auto)]
+
 mod units;
 
 ghost use Rattle.std.specs.Prelude.{◌≡◌, ◌+◌, ◌*◌, ◌-◌, ◌<◌, ◌≤◌, ◌&&◌, get_or, length};

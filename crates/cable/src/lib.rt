@@ -4,6 +4,8 @@
 // Every function is total, and says what it answers by a definition of specs/. Room in an output is not
 // asked for here. A `Cable` is what callers keep; the bytes are heard by a `Receiver`, which is the same
 // with the held bytes in their places of the packet.
+#![tactic(auto)]
+
 mod hearing;
 mod receiving;
 mod state;

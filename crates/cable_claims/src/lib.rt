@@ -1,5 +1,7 @@
 // Theorems about the five-pin sockets. Each stands as a type in specs/ and is proved in proofs/; the
 // functions below do nothing and ensure them, so that a check names each.
+#![tactic(auto)]
+
 ghost use Rattle.cable_claims.specs.EveryByte.{EveryByte};
 ghost use Rattle.cable_claims.specs.ExclusiveReturns.{ExclusiveReturns};
 ghost use Rattle.cable_claims.specs.RealTime.{RealTimeApart};

@@ -4,6 +4,8 @@
 // A packet that straddles two reads is not cut, what is open on a cable goes from buffer to buffer, and
 // input of any length is taken. What a buffer comes to is said by the contracts of cableflow and wire.
 // Here no contract can say what is read or written, so these functions are proved to be safe and to end.
+#![tactic(auto)]
+
 use cable::{Cable, EXCLUSIVE};
 use exchange::{Side, pass_through};
 use libc::{STDIN_FILENO, STDOUT_FILENO};

@@ -4,6 +4,8 @@
 // No function has a `requires`. A run says by the run of the definitions what it reports, which cable it
 // leaves and what the output holds after, on every input; and how often each sort of answer came is a
 // count over the calls that it made.
+#![tactic(auto)]
+
 ghost use Rattle.std.specs.Prelude.{◌≡◌, length, take};
 ghost use Rattle.ground.specs.Store.{at_start};
 ghost use Rattle.stream.specs.Report;

@@ -3,6 +3,8 @@
 //
 // Each stands as a type in specs/ and is proved in proofs/. The functions below do nothing and ensure
 // them, so that a check names each.
+#![tactic(auto)]
+
 ghost use Rattle.chain_claims.specs.Claims.{Alone, Counted, Dropped, Finished, Made, NoTouch};
 ghost use Rattle.chain_claims.specs.InOrder.{InOrder};
 

@@ -4,6 +4,8 @@
 //
 // No public function has a `requires`: `call` and `turn` say by definitions of specs/ what they report,
 // what the chain is after them and what the buffer then holds, for any packet, any chain and any buffer.
+#![tactic(auto)]
+
 mod check;
 mod part;
 pub mod run;

@@ -3,6 +3,8 @@
 //
 // A record is plain numbers, so that it crosses to C as it stands, and a caller may lend any: every
 // number of keys is sound.
+#![tactic(auto)]
+
 ghost use Rattle.std.specs.Prelude.{◌≡◌};
 ghost use Rattle.channel.specs.Record.{empty, fresh, sound, with_mark};
 

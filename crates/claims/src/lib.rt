@@ -1,5 +1,7 @@
 // Theorems about the definitions of the translator. Each stands as a type in specs/ and is proved in
 // proofs/; the functions below do nothing and ensure them, so that a check names each.
+#![tactic(auto)]
+
 ghost use Rattle.claims.specs.Beginners.{Beginners};
 ghost use Rattle.claims.specs.Lessons.{Lessons};
 ghost use Rattle.claims.specs.Marks.{Marks};

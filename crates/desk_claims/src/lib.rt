@@ -2,6 +2,8 @@
 // of its channel say, by a definition that knows no desk; and the examples of the request.
 //
 // Each claim is a type in specs/, proved in proofs/, and ensured by an empty function of its name.
+#![tactic(auto)]
+
 ghost use Rattle.desk_claims.specs.Examples.{Examples};
 ghost use Rattle.desk_claims.specs.History.{History};
 

@@ -3,6 +3,8 @@
 //
 // No public function has a `requires`. Each says by a definition of specs/ what it answers and what the
 // lent text holds after it, on every input: a line that does not fit is not begun.
+#![tactic(auto)]
+
 mod picture;
 mod run;
 

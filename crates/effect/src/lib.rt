@@ -2,6 +2,8 @@
 // remembered, or leaves the record as it is. No message does two of these.
 //
 // `effected` is total, and says the record after by the definition of specs/.
+#![tactic(auto)]
+
 ghost use Rattle.std.specs.Prelude.{◌≡◌};
 ghost use Rattle.effect.specs.Effect;
 

@@ -2,6 +2,8 @@
 // has a place. A packet is given by its first two words, the second 0 where it has one word.
 //
 // Every function is total, and says what it finds by a definition of specs/.
+#![tactic(auto)]
+
 ghost use Rattle.std.specs.Prelude.{◌≡◌, cond, not, ◌&&◌, [], ◌∷◌, ◌+◌, ◌≤◌, ◌<◌, ◌^◌, eqb};
 ghost use Rattle.ump.specs.Word;
 ghost use Rattle.fields.specs.Check.{bad_place, behind, checked_fields, exclusive_fields, good_fields, good_status};

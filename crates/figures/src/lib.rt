@@ -3,6 +3,8 @@
 //
 // `exact` has no `requires`, and says what it answers and what the lent buffer holds after it, on every
 // input: what does not fit is not begun. That the digits lose nothing is a claim.
+#![tactic(auto)]
+
 ghost use Rattle.std.specs.Prelude.{◌≡◌, ◌+◌, ◌<◌, ◌≤◌, ◌^◌, length};
 ghost use Rattle.std.proofs.lemmas.List.Edits.{sets};
 ghost use Rattle.text.specs.Lines.{place_after, with_row};

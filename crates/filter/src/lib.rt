@@ -5,6 +5,8 @@
 // A packet that straddles two reads is not cut, and input of any length is taken. What a buffer comes
 // to is said by the contracts of flow, pupil and wire. Here no contract can say what is read or written, so
 // these functions are proved to be safe and to end.
+#![tactic(auto)]
+
 ghost use Rattle.std.specs.Prelude.{◌≡◌, ◌≤◌, length};
 
 use flow::{PANEL_BYTES, Table};

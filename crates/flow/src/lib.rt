@@ -5,6 +5,8 @@
 // No function has a `requires`. A run says by the run of the definitions what it reports, what table
 // it leaves and what the output holds after, on every input; and how often each sort of packet came is
 // a count over the words that were read. The panel says by its lines what a text of any length holds.
+#![tactic(auto)]
+
 mod lamps;
 mod lines;
 

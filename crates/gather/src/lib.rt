@@ -4,6 +4,8 @@
 // No public function has a `requires`. `gather_some` says by the run of the definitions what it reports,
 // what is held after it and what the text holds, on every input. A packet is looked at only where any line
 // would still fit, so no line is lost.
+#![tactic(auto)]
+
 ghost use Rattle.std.specs.Prelude.{◌≡◌, ◌+◌, ◌-◌, ◌≤◌, ltb, drop, length};
 ghost use Rattle.ground.specs.Store.{at_start, written};
 ghost use Rattle.ump.specs.Packet.{packet};

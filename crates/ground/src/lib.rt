@@ -3,3 +3,4 @@
 //
 // There is no code here. The definitions of specs/ say what a lent output holds after a store, and
 // proofs/ has what every other crate cites.
+#![tactic(auto)]

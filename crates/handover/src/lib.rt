@@ -2,6 +2,8 @@
 //
 // No function has a `requires`, and each says what it does by a definition of specs/. `give` changes
 // the owner list, and tells which records a caller is to empty by `empty_from`.
+#![tactic(auto)]
+
 ghost use Rattle.std.specs.Prelude.{◌≡◌, ◌+◌, ◌-◌, min};
 ghost use Rattle.handover.specs.Handover;
 

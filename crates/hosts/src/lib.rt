@@ -3,6 +3,8 @@
 //
 // Every function is total, and says what it answers by a definition of specs/. An owner list may have
 // any length and any numbers, and a host any number.
+#![tactic(auto)]
+
 ghost use Rattle.std.specs.Prelude.{◌≡◌, ◌<◌};
 ghost use Rattle.handover.specs.Handover.{is_host};
 ghost use Rattle.hosts.specs.Hosts;

@@ -3,6 +3,8 @@
 // Neither turn has a `requires`. Each says by the definitions of specs/ what it hands back, on every
 // input, and an identity without counterpart is an answer of its own. That a turn there and back changes
 // nothing, and what exactly has no counterpart, is claimed of the same definitions.
+#![tactic(auto)]
+
 ghost use Rattle.std.specs.Prelude.{◌≡◌, [], ◌∷◌};
 ghost use Rattle.std.proofs.Math.Option as Option;
 ghost use Rattle.identity.specs.Identity.{identity_from, maker_from, new_of, old_of};

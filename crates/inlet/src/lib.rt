@@ -3,6 +3,8 @@
 //
 // No public function has a `requires`. Each says by a definition of specs/ what it answers, how much it
 // reads and writes, which state it leaves and what the output holds after, on every input.
+#![tactic(auto)]
+
 ghost use Rattle.std.specs.Prelude.{◌≡◌, cond, [], ◌∷◌, ◌-◌, ◌≤◌, length, take};
 ghost use Rattle.stream.specs.Answers.{cut_packet, sent};
 ghost use Rattle.ground.specs.Store.{at_start, written};

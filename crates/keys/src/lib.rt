@@ -3,6 +3,8 @@
 //
 // Every function is total and says what it finds by a definition of specs/. The laws of these
 // definitions are the last three functions, which do nothing and ensure them.
+#![tactic(auto)]
+
 ghost use Rattle.std.specs.Prelude.{◌≡◌, cond, ◌<◌};
 ghost use Rattle.keys.specs.Keys.{down, down_count, empty_keys, least_down, pressed, released, with_bit, without};
 ghost use Rattle.keys.specs.History.{History, Lowests, Single};

@@ -3,6 +3,8 @@
 //
 // `run` has no `requires`, and promises the words and the report of the run up from that table, with an
 // answer that is one of three.
+#![tactic(auto)]
+
 ghost use Rattle.std.specs.Prelude.{◌≡◌, length};
 ghost use Rattle.ground.specs.Store.{at_start};
 ghost use Rattle.lesson.specs.Lesson.{lesson, lesson_report};

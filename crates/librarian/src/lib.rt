@@ -4,6 +4,8 @@
 // A packet that straddles two reads is not cut, and input of any length is taken. What a buffer comes to
 // is said by the contracts of gather and wire. Here no contract can say what is read or written, so these
 // functions are proved to be safe and to end.
+#![tactic(auto)]
+
 use chains::{CHAINS, Chain};
 use gather::{gather_some, is_open};
 use libc::{STDIN_FILENO, STDOUT_FILENO};

@@ -3,6 +3,8 @@
 //
 // `lifted` is total. What it says of a memory that is not sound no call sends: soundness is asked
 // first, one crate above.
+#![tactic(auto)]
+
 ghost use Rattle.std.specs.Prelude.{◌≡◌, ◌+◌, ◌*◌, ◌%◌, ◌^◌};
 ghost use Rattle.scale.specs.Scale.{up};
 ghost use Rattle.ump.specs.Word.{channel_of, group_of, voice2};

@@ -1,5 +1,7 @@
 // Going down: a MIDI 2.0 channel voice message is up to four MIDI 1.0 messages, none where it has no
 // MIDI 1.0 form. No record is needed, and `lowered` is total.
+#![tactic(auto)]
+
 ghost use Rattle.std.specs.Prelude.{◌≡◌, [], ◌∷◌, ◌%◌, ◌^◌};
 ghost use Rattle.scale.specs.Scale.{down};
 ghost use Rattle.ump.specs.Word.{bits, channel_of, group_of, voice1};

@@ -3,6 +3,8 @@
 // Every function is total, and says what it does by a definition of specs/. Whoever lends a table reads
 // and stores the one record; `mark_in` does it for a table by value, and `marked_table` makes one with the
 // marks of a list.
+#![tactic(auto)]
+
 mod table;
 
 ghost use Rattle.std.specs.Prelude.{◌≡◌};

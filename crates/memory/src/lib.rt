@@ -5,6 +5,8 @@
 // It is plain numbers, so that it crosses to C as it stands, and a caller may lend any. A number is 0
 // to 127 or `MISSING`, and the mark 0 or 1; a memory with any other is not sound. The methods take it
 // by value and return the new one.
+#![tactic(auto)]
+
 ghost use Rattle.std.specs.Prelude.{◌≡◌, ◌&&◌, leb};
 ghost use Rattle.memory.specs.Memory.{StaysSound, address_open, addressed, assignable, banked, complete};
 ghost use Rattle.memory.specs.Memory.{data_high_present, empty, kept, mark_by, marked, marked_as, null, number};

@@ -2,6 +2,8 @@
 // words a message is written to.
 //
 // The messages themselves are data types of specs/; here is the word that each is written with.
+#![tactic(auto)]
+
 ghost use Rattle.std.specs.Prelude.{◌≡◌, ◌%◌, ◌^◌};
 ghost use Rattle.ump.specs.Word.{channel_of, group_of};
 ghost use Rattle.message.specs.Message.{ReadsBack, part, voice_word};

@@ -2,6 +2,8 @@
 //
 // No contract can say what is written to a descriptor, so these functions are proved to be safe and to
 // end.
+#![tactic(auto)]
+
 ghost use Rattle.std.specs.Prelude.{◌≤◌};
 
 use remark::Line;

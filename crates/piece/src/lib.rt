@@ -3,6 +3,8 @@
 // the packet's first word.
 //
 // Every function is total, and says what it finds by a definition of specs/.
+#![tactic(auto)]
+
 ghost use Rattle.std.specs.Prelude.{◌≡◌, min};
 ghost use Rattle.piece.specs.Piece.{address_of, exclusive_piece, flex_piece, format_of, head_by, head_of, shared_of};
 ghost use Rattle.piece.specs.Piece.{slot_by, strange_address};

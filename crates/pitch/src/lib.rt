@@ -3,6 +3,8 @@
 //
 // Every function is total. Nothing is rounded: a pitch is just as many parts of 2 to the -31 as the number of
 // specs/Pitch.antt, since no operation on the way loses anything.
+#![tactic(auto)]
+
 ghost use Rattle.std.specs.Prelude.{◌≡◌, pos};
 ghost use Rattle.pitch.specs.Dyadic.{Dyadic, nearest};
 ghost use Rattle.pitch.specs.Pitch.{base_of, bend_of, float_of, pitch_of, shown_as};

@@ -2,6 +2,8 @@
 //
 // No contract can say what a descriptor gives or takes, so these functions are proved to be safe and to
 // end, and a reading to leave no more bytes than its buffer holds. What failed is said on standard error.
+#![tactic(auto)]
+
 ghost use Rattle.std.specs.Prelude.{◌≡◌, ◌≤◌, length};
 
 // The bytes that stand in a buffer after a read.

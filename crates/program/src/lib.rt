@@ -4,6 +4,8 @@
 // What a buffer comes to is said by the contracts of flow, pupil and wire. Which of them a program
 // takes is chosen here, and proved to be safe and to end: no more is read than was given, and no more
 // is handed on than the text holds.
+#![tactic(auto)]
+
 mod totals;
 
 ghost use Rattle.std.specs.Prelude.{◌≡◌, ◌≤◌, length};

@@ -3,6 +3,8 @@
 //
 // `only` has no `requires`, and says by the run of specs/ what it reports and what the output holds
 // after, on every input.
+#![tactic(auto)]
+
 ghost use Rattle.std.specs.Prelude.{◌≡◌, ◌+◌, ◌<◌, ◌^◌, [], ◌∷◌, drop, length};
 ghost use Rattle.ground.specs.Store.{at_start, written};
 ghost use Rattle.ump.specs.Packet.{cut, packet};

@@ -5,6 +5,8 @@
 //
 // No function that is exported has a `requires`. Each contract gives the report, the table and the output at exit by
 // the definitions of the crates below, on every input.
+#![tactic(auto)]
+
 mod messages;
 mod sockets;
 

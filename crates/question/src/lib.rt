@@ -2,6 +2,8 @@
 //
 // Every function is total, and says what it finds by a definition of specs/. The record that is asked
 // for is read by whoever has the table.
+#![tactic(auto)]
+
 ghost use Rattle.std.specs.Prelude.{◌≡◌};
 ghost use Rattle.question.specs.Question.{in_range, keys_shown, keys_told, lowest_told, place_asked, showing_none};
 

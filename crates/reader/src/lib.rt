@@ -2,6 +2,8 @@
 //
 // Every function is total: past the end there is no packet. They are thin functions over ump's
 // `packet_at` and `next_place`.
+#![tactic(auto)]
+
 ghost use Rattle.std.specs.Prelude.{◌≡◌, ◌+◌, drop, length};
 ghost use Rattle.ump.specs.Packet;
 

@@ -3,6 +3,8 @@
 //
 // No function has a `requires`. Each says by a definition of specs/ what it answers, and what a lent text
 // holds after it, on every input.
+#![tactic(auto)]
+
 ghost use Rattle.std.specs.Prelude.{◌≡◌, slice_index_or};
 ghost use Rattle.text.specs.Lines.{place_after, with_row};
 ghost use Rattle.recording.specs.Recording.{cut_line, header, header_answer, is_said, is_stamp, left_line};

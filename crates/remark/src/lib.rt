@@ -3,6 +3,8 @@
 //
 // No contract can say what is written to a descriptor, so these functions are proved to be safe and to
 // end. A line that is longer than any should be is cut.
+#![tactic(auto)]
+
 use libc::STDERR_FILENO;
 
 // The most that a line can have, and more than any has.

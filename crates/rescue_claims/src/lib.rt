@@ -1,5 +1,7 @@
 // Theorems about the rescue of a whole recording. Each stands as a type in specs/ and is proved in
 // proofs/; the functions below do nothing and ensure them, so that a check names each.
+#![tactic(auto)]
+
 ghost use Rattle.rescue_claims.specs.Rescued.{AddsUp, BufferByBuffer, Headers, KeptExactly, RescuedAgain};
 ghost use Rattle.rescue_claims.specs.Rescued.{TicksRound};
 

@@ -3,6 +3,8 @@
 //
 // No public function has a `requires`. A run says by the run of specs/ what it reports, what then went before and
 // what the output holds after, on every input. Packets are read through the reader.
+#![tactic(auto)]
+
 mod keep;
 mod tell;
 

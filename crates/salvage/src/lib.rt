@@ -5,6 +5,8 @@
 // The old file is only read, and the new one must not exist yet. One that could not be completed stays as
 // far as it came, and it is said. What a buffer comes to is said by the contracts of rescuing and wire. Here
 // no contract can say what is read or written, so these functions are proved to be safe and to end.
+#![tactic(auto)]
+
 mod files;
 
 ghost use Rattle.std.specs.Prelude.{◌≡◌, ◌*◌, ◌≤◌, length};

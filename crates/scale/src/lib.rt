@@ -2,6 +2,8 @@
 //
 // Every function here is total. Of a value outside the source width only the lowest bits, as many
 // as the width has, are read.
+#![tactic(auto)]
+
 ghost use Rattle.std.specs.Prelude.{◌≡◌, cond, ◌<◌, ◌%◌, ◌^◌, leb};
 ghost use Rattle.scale.specs.Scale.{CoreRules, down, up};
 

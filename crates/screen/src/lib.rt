@@ -3,6 +3,8 @@
 // fields in packet order (7), then the rule of the room (23), and needs no channel record.
 //
 // Every function is total, and says what it finds by a definition of specs/.
+#![tactic(auto)]
+
 ghost use Rattle.std.specs.Prelude.{◌≡◌, ◌<◌};
 ghost use Rattle.fields.specs.Check.{checked_fields, good_status};
 ghost use Rattle.screen.specs.Screen.{admitted, answering, beginners_controller};

@@ -4,6 +4,8 @@
 // A packet that straddles two reads is not cut, input of any length is taken, and a line that has no room
 // waits for the next turn. What a buffer comes to is said by the contract of display. Here no contract
 // can say what is read or written, so these functions are proved to be safe and to end.
+#![tactic(auto)]
+
 ghost use Rattle.std.specs.Prelude.{◌≤◌, length};
 
 use libc::{STDIN_FILENO, STDOUT_FILENO};

@@ -4,6 +4,8 @@
 //
 // No contract can say what a program is started with, so these functions are proved to be safe and to
 // end. What an argument names and what a mark does are said by the contracts of argument and mark.
+#![tactic(auto)]
+
 use argument::{Named, Number};
 use flow::Table;
 use libc::ENAMETOOLONG;

@@ -3,6 +3,8 @@
 //
 // The answers have their numbers here and nowhere else. What a run is stands in specs/Run.antt, over
 // any step and any state, with its laws beside it in proofs/.
+#![tactic(auto)]
+
 ghost use Rattle.std.specs.Prelude.{◌≡◌};
 ghost use Rattle.stream.specs.Report.{counting, placing};
 

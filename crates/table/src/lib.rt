@@ -5,6 +5,8 @@
 // `treat` has no `requires`, and promises the call or the run itself, on every input. What it is to do
 // is a job; `run_told` makes that of a run over a table that may be known to be sound. `run_from` does it
 // with a table that the caller has by value.
+#![tactic(auto)]
+
 ghost use Rattle.std.specs.Prelude.{◌≡◌, cond, not, ◌&&◌, ◌||◌, eqb, ltb, get_or, length};
 ghost use Rattle.ground.specs.Store.{at_start};
 ghost use Rattle.ump.specs.Word.{data1, place_of};

@@ -3,6 +3,8 @@
 //
 // No public function has a `requires`. The counts are a count over the packets of some words, or one
 // more of a sort, and each says so by definitions of specs/, on every input.
+#![tactic(auto)]
+
 ghost use Rattle.std.specs.Prelude.{◌≡◌, drop};
 ghost use Rattle.tally.specs.Tally.{counted, sort_by, sort_down, sort_of, sort_out, sort_up, tally_by};
 

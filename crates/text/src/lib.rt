@@ -6,6 +6,8 @@
 // No public function has a `requires`. Each says what it answers and what the lent buffer holds after
 // it, on every input: a line that does not fit is not begun, nor is a row or a number, of which other
 // lines are made.
+#![tactic(auto)]
+
 mod panel;
 mod rescue;
 mod rows;

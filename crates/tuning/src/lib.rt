@@ -3,6 +3,8 @@
 //
 // Every function is total, and says what the desk is after it, or what it shows, by a definition of
 // specs/. A pitch that is shown is exact.
+#![tactic(auto)]
+
 ghost use Rattle.std.specs.Prelude.{◌≡◌};
 ghost use Rattle.ump.specs.Word.{data1 as note_of};
 ghost use Rattle.pitch.specs.Dyadic.{Dyadic};

@@ -3,6 +3,8 @@
 //
 // A packet passes cut, type, check and act. No public function has a `requires`, and each says what it
 // reports, what it does to the record and what the output holds after, on every input.
+#![tactic(auto)]
+
 mod downward;
 mod output;
 mod upward;
