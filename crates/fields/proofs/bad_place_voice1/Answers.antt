@@ -1,0 +1,12 @@
+-- `fields::bad_place_voice1` meets its contract: each way out has the fields of its status. Assumes nothing.
+use Rattle.fields.specs.Check.{voice1_fields}
+use Rattle.ground.proofs.Tests.{tests}
+use Rattle.fields.proofs.bad_place_voice1.Goals as goal
+
+pub returns-then-s : goal.returns-then-s
+unfolding voice1_fields
+returns-then-s c = simp (tests, ← c.one_field.ensures, ← c.byte3.ensures, c.if-s.true, ← c.status-s.ensures)
+
+pub returns-else-s : goal.returns-else-s
+unfolding voice1_fields
+returns-else-s c = simp (tests, ← c.two_fields.ensures, ← c.byte4.ensures, ← c.byte3-else-s.ensures, c.if-s.false, ← c.status-s.ensures)
