@@ -33,7 +33,7 @@ pub const NEITHER_TYPE: u32 = 16;
 
 // What is asked of a packet besides: of a good one whether it is for the beginners' room; and of one
 // with a group whether that lies behind the fence, where the bits of `groups` are set.
-#[derive(Drop)]
+#[derive(Clone, Copy)]
 pub struct Rule {
     pub beginners: bool,
     pub fenced: bool,
