@@ -1,15 +1,14 @@
 -- A piece is fine, its head is that of its first word, and a chain's number is at most that of none, and else where the
 -- slot is. Assumes nothing.
 use Prim.Native.Nat.{ℕ, ◌+◌, ◌≤◌, ◌<◌}
-use mathlib.Core.Path.{◌≡◌, refl, sym}
+use mathlib.Core.Path.{◌≡◌, refl}
 use mathlib.Core.Bool.{Bool, true, false, cond}
 use native.Mathlib.Omega.{arith}
 use lib.Dec.{eqb}
 use borrow.Author.Tests.{eqb-true}
 use Rattle.ground.proofs.Cases.{choose}
 use Rattle.ump.specs.Word.{group_of, message_type}
-use Rattle.piece.specs.declared.Head.{Head}
-use Rattle.piece.specs.Piece.{Fine, Piece, chain_by, chain_for, exclusive, exclusive_piece, flex, flex_piece, head_by}
+use Rattle.piece.specs.Piece.{Fine, chain_by, chain_for, exclusive, exclusive_piece, flex, flex_piece, head_by}
 use Rattle.piece.specs.Piece.{head_of, no_chain, piece_for, slot_by}
 
 pub piece-fine : (t w a b c : ℕ) → Fine (piece_for t w a b c)
