@@ -1,16 +1,16 @@
 -- The bits of a number, one by one: setting one, clearing one, counting them, and the lowest. Assumes nothing.
-use mathlib.Core.Path.{◌≡◌, refl, sym, ap, ap₂, ◌∙◌, subst}
+use mathlib.Core.Path.{◌≡◌, refl, sym, ap, ap₂, ◌∙◌}
 use mathlib.Core.Bool.{Bool, true, false, cond}
 use mathlib.Core.Logic.{◌⊎◌, inl, inr, ⊎_elim}
-use Prim.Native.Nat.{ℕ, zero, suc, ◌+◌, ◌-◌, ◌*◌, ◌/◌, ◌%◌, ◌^◌, ◌≤◌, ◌<◌}
-use native.Mathlib.Nat.{mod-lt, mod-eq_of_lt, div-eq_of_lt, one-mul, mul-one, zero-div, zero-mod, pow-suc, mod-one, add-zero, add-suc, eq-or-lt_of_le, le_of_suc-le-suc, zero-lt-suc, lt_irrefl}
-use native.Mathlib.Numerals.{add-one, one-add}
+use Prim.Native.Nat.{ℕ, zero, suc, ◌+◌, ◌-◌, ◌*◌, ◌/◌, ◌%◌, ◌^◌, ◌<◌}
+use native.Mathlib.Nat.{mod-lt, mod-eq_of_lt, one-mul, zero-div, pow-suc, mod-one, add-zero, add-suc, eq-or-lt_of_le, le_of_suc-le-suc, zero-lt-suc}
+use native.Mathlib.Numerals.{one-add}
 use native.Mathlib.Omega.{arith}
-use lib.Dec.{ltb, eqb}
+use lib.Dec.{eqb}
 use lib.Pow.{pow_pos, pow-lt, shl_exact, shr-shr, mod-pow-add}
-use lib.Bits.{bit_and, bit_or, and_shr, and_mod, or_shr, or_mod, and_zero_l, and_zero_r, or_zero_l, or_zero_r}
+use lib.Bits.{bit_and, bit_or, and_shr, and_mod, or_shr, or_mod, and_zero_r, or_zero_r}
 use lib.Count.{ones, ones_cat, count_trailing_zeros, under}
-use borrow.Author.Tests.{eq-eqb, ne_eqb, lt-ltb, le-ltb}
+use borrow.Author.Tests.{eq-eqb, ne_eqb}
 use Rattle.keys.specs.Keys.{bit, with_bit, without, tally, least, or_key}
 use Rattle.keys.specs.declared.Lowest.{Lowest}
 use Rattle.keys.specs.declared.Lowest.TheVariants.{None, Key}

@@ -1,18 +1,15 @@
 -- What a press, a release, a count and the lowest say of the keys that are down. Assumes nothing.
 use mathlib.Core.Path.{◌≡◌, refl, sym, ap, ap₂, ◌∙◌, subst}
 use mathlib.Core.Bool.{Bool, true, false, cond}
-use mathlib.Core.Logic.{◌⊎◌, inl, inr, ⊎_elim}
-use Prim.Native.Nat.{ℕ, zero, suc, ◌+◌, ◌-◌, ◌*◌, ◌/◌, ◌%◌, ◌^◌, ◌≤◌, ◌<◌}
+use Prim.Native.Nat.{ℕ, ◌+◌, ◌-◌, ◌%◌, ◌^◌, ◌≤◌, ◌<◌}
 use native.Mathlib.Nat.{add-sub_cancel_left, mod-eq_of_lt}
 use native.Mathlib.Omega.{arith}
-use lib.Dec.{ltb, eqb}
+use lib.Dec.{ltb}
 use lib.Count.{ones, count_trailing_zeros}
-use borrow.Author.Tests.{eq-eqb, ne_eqb, lt-ltb, le-ltb, ltb-true, ltb-false}
-use Rattle.keys.specs.Keys.{bit, down, empty_keys, changed, pressed, released, with_bit, without, tally, least, or_key}
+use borrow.Author.Tests.{lt-ltb, le-ltb, ltb-true, ltb-false}
+use Rattle.keys.specs.Keys.{bit, down, empty_keys, changed, pressed, released, with_bit, without, tally, least}
 use Rattle.keys.specs.declared.Keys.{Keys}
-use Rattle.keys.specs.declared.Lowest.{Lowest}
 use Rattle.keys.specs.declared.Lowest.TheVariants.{None, Key}
-use Rattle.keys.specs.Keys.{down_count, least_down}
 use Rattle.keys.specs.History.{Single, Lowests}
 use Rattle.keys.proofs.Bit.{with-same, with-other, without-same, without_other, no-bit, ones-tally, tally-ext, tally-split, least-none, least-key, tz-clear, tz-set, Found, found, tally-zero, zero-tally}
 

@@ -1,5 +1,4 @@
 -- `keys::with_bit`: one shifted by the place is the bit's own number.
-use mathlib.Core.Path.{◌≡◌}
 use borrow.Author.Rules.{rules}
 use Rattle.keys.specs.Keys.{with_bit, without}
 use Rattle.keys.proofs.Bit.{one_shl}
