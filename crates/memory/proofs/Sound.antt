@@ -4,10 +4,10 @@ use mathlib.Core.Bool.{Bool, true, false, false≢true, cond, not, ◌&&◌, ◌
 use Prim.Native.Nat.{ℕ, ◌≤◌, ◌<◌}
 use lib.Dec.{eqb, leb, ltb}
 use native.Mathlib.Omega.{arith}
-use borrow.Author.Tests.{eq-eqb, eqb-false, eqb-true, le-leb, le-ltb, leb-true, lt-leb, lt-ltb, ltb-false, ltb-true, ne_eqb, not-true}
+use borrow.Author.Tests.{eq-eqb, eqb-false, eqb-true, le-leb, leb-true, lt-leb, ltb-false, ltb-true, ne_eqb, not-true}
 use Rattle.ground.proofs.Cases.{by_bool}
 use Rattle.memory.specs.declared.Memory.{Memory}
-use Rattle.memory.specs.Memory.{StaysSound, address_open, addressed, complete, data_high_present, kept, mark_by, marked, null}
+use Rattle.memory.specs.Memory.{StaysSound, address_open, addressed, complete, data_high_present, kept, marked, null}
 use Rattle.memory.specs.Memory.{number, present, sound, sound_bank, sound_mark, with_address_bank, with_address_closed}
 use Rattle.memory.specs.Memory.{with_address_index, with_bank_high, with_bank_low, with_bank_spent, with_data_high, with_mark}
 use Rattle.ground.proofs.Bools.{and-false, and_left, and_right, and-true, bools}

@@ -29,7 +29,7 @@ const MARKED: u8 = 1;
 
 // Eight bytes, so that it moves as one word.
 #[repr(C)]
-#[derive(Drop)]
+#[derive(Clone, Copy)]
 pub struct Memory {
     pub kind: u16,
     pub bank_high: u8,
