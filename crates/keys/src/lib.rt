@@ -11,13 +11,13 @@ ghost use Rattle.keys.specs.History.{History, Lowests, Single};
 
 // Key k is bit k of low, or bit k - 64 of high.
 #[repr(C)]
-#[derive(Drop)]
+#[derive(Clone, Copy)]
 pub struct Keys {
     pub low: u64,
     pub high: u64,
 }
 
-#[derive(Drop)]
+#[derive(Clone, Copy)]
 pub enum Lowest {
     None,
     Key(u8),
