@@ -16,7 +16,7 @@ pub const RECORDS: usize = 256;
 
 // Twenty-four bytes, in C one flat struct.
 #[repr(C)]
-#[derive(Drop)]
+#[derive(Clone, Copy)]
 pub struct Record {
     pub keys: Keys,
     pub memory: Memory,
