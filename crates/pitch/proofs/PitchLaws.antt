@@ -1,8 +1,8 @@
 -- The claims: each operation by its law in Exact.antt, and the shown pitch from them. Assumes nothing.
-use Prim.Native.Nat.{ℕ, ◌+◌, ◌^◌, ◌<◌}
+use Prim.Native.Nat.{ℕ, ◌^◌, ◌<◌}
 use mathlib.Core.Path.{◌≡◌}
 use lib.Dec.{lit<, lit≤}
-use lib.IntN.{ℤ, pos, ◌+ℤ◌}
+use lib.IntN.{pos, ◌+ℤ◌}
 use lib.Ieee.{Float, binary64, div, mul, sub}
 use Rattle.pitch.specs.declared.Base.TheVariants.{Number, Pitch725, Pitch79}
 use Rattle.pitch.specs.Dyadic.{Dyadic, nearest, times2}

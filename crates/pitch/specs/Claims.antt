@@ -5,7 +5,7 @@ use Rattle.std.specs.Float.{binary64, fin}
 use Rattle.pitch.specs.declared.Base.{Base}
 use Rattle.pitch.specs.declared.Base.TheVariants.{Number, Pitch725, Pitch79}
 use Rattle.pitch.specs.Dyadic.{Dyadic, nearest, times2}
-use Rattle.pitch.specs.Pitch.{base_of, bend_of, centre, pitch_of, shown_as, float_of}
+use Rattle.pitch.specs.Pitch.{centre, pitch_of, shown_as, float_of}
 
 -- a base of 7 bits and a spare one, of 32 bits, of 16 bits
 abbrev pub Held : Base → Type 0

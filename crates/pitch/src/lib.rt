@@ -11,7 +11,7 @@ ghost use Rattle.pitch.specs.Pitch.{base_of, bend_of, float_of, pitch_of, shown_
 ghost use Rattle.pitch.specs.Claims.{Exactness, Operations};
 
 // What a pitch is counted from: the note number, Pitch 7.25 or Pitch 7.9.
-#[derive(Drop)]
+#[derive(Clone, Copy)]
 pub enum Base {
     Number(u8),
     Pitch725(u32),
@@ -19,7 +19,7 @@ pub enum Base {
 }
 
 // What is shown: which of the three it was, together with the pitch; or nothing.
-#[derive(Drop)]
+#[derive(Clone, Copy)]
 pub enum Shown {
     Nothing,
     Number(f64),
