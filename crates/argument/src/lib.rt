@@ -24,14 +24,14 @@ const NINE: u8 = b'9';
 const MOST: u32 = 15;
 
 // What an argument names: a channel, by its group and its own number, or nothing.
-#[derive(Drop)]
+#[derive(Clone, Copy)]
 pub enum Named {
     Nothing,
     Channel(u8, u8),
 }
 
 // A group or a channel, where there is one.
-#[derive(Drop)]
+#[derive(Clone, Copy)]
 pub enum Number {
     None,
     Is(u8),

@@ -21,14 +21,14 @@ use stream::Done;
 use tally::{SORTS, Way, one_more, tally_of};
 
 // An import: its report, with the cable after it, and how often each answer came.
-#[derive(Drop)]
+#[derive(Clone, Copy)]
 pub struct ImportedAndCounts {
     pub imported: Imported,
     pub counts: [u64; SORTS],
 }
 
 // An export: its report, and how often each sort of answer came.
-#[derive(Drop)]
+#[derive(Clone, Copy)]
 pub struct ExportedAndCounts {
     pub done: Done,
     pub counts: [u64; SORTS],

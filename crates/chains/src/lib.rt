@@ -33,7 +33,7 @@ pub const CHAINS: usize = 32;
 // One chain: how many bytes stand in its part, the fields that its packets share, and how many packets it
 // has, 0 while none is open. An open exclusive counts 1.
 #[repr(C)]
-#[derive(Drop)]
+#[derive(Clone, Copy)]
 pub struct Chain {
     pub length: usize,
     pub shared: u32,
@@ -43,7 +43,7 @@ pub struct Chain {
 // What a call or a run reports: the answer, the place of bad data, and the words read; the packet's chain,
 // or `NO_CHAIN`, with where its bytes stand in the buffer and how many.
 #[repr(C)]
-#[derive(Drop)]
+#[derive(Clone, Copy)]
 pub struct Collected {
     pub answer: u32,
     pub place: u32,
@@ -54,21 +54,21 @@ pub struct Collected {
 }
 
 // A call with one chain: what it reports, and the chain after it.
-#[derive(Drop)]
+#[derive(Clone, Copy)]
 pub struct Called {
     pub report: Collected,
     pub chain: Chain,
 }
 
 // How far a run is: the report so far, and whether another packet is to be taken.
-#[derive(Drop)]
+#[derive(Clone, Copy)]
 pub struct Progress {
     pub report: Collected,
     pub more: bool,
 }
 
 // A turn of a run: how far it is then, the chain after it, and whether that is as it was.
-#[derive(Drop)]
+#[derive(Clone, Copy)]
 pub struct Turned {
     pub progress: Progress,
     pub chain: Chain,

@@ -14,7 +14,7 @@ use stream::Done;
 use tuning::Desk;
 
 // A call or a run: the desk after it, and the report, which counts the bytes of the lines as written.
-#[derive(Drop)]
+#[derive(Clone, Copy)]
 pub struct DeskAndReport {
     pub desk: Desk,
     pub done: Done,

@@ -13,14 +13,14 @@ use program::Totals;
 use stream::report;
 
 // Bytes of a cable become words, or words become bytes of a cable.
-#[derive(Drop)]
+#[derive(Clone, Copy)]
 pub enum Side {
     Import,
     Export,
 }
 
 // What some bytes came to: how many of them were read, and the bytes to write.
-#[derive(Drop)]
+#[derive(Clone, Copy)]
 pub struct Exchanged {
     pub cable: Cable,
     pub totals: Totals,

@@ -25,14 +25,14 @@ use table::{run_from, whole_run};
 use tally::{SORTS, Way, tally_of};
 
 // The channel records.
-#[derive(Drop)]
+#[derive(Clone, Copy)]
 pub struct Table {
     pub records: [Record; RECORDS],
 }
 
 // A run up: the table after it, its report, and how often each sort of packet came, at the sort's
 // number. 0 stands for whatever was not refused.
-#[derive(Drop)]
+#[derive(Clone, Copy)]
 pub struct TableReportAndCounts {
     pub table: Table,
     pub done: Done,
@@ -40,7 +40,7 @@ pub struct TableReportAndCounts {
 }
 
 // A run down: its report, and how often each sort came.
-#[derive(Drop)]
+#[derive(Clone, Copy)]
 pub struct ReportAndCounts {
     pub done: Done,
     pub counts: [u64; SORTS],
@@ -48,14 +48,14 @@ pub struct ReportAndCounts {
 
 // A run into lines: the table after it, and the report, which counts the bytes of the lines as
 // written.
-#[derive(Drop)]
+#[derive(Clone, Copy)]
 pub struct LinesReport {
     pub table: Table,
     pub done: Done,
 }
 
 // A call up: the record that it leaves, and the report.
-#[derive(Drop)]
+#[derive(Clone, Copy)]
 struct RecordAndReport {
     after: Record,
     done: Done,

@@ -23,7 +23,7 @@ use tally::{SORTS, one_more, sort_of};
 
 // The chains and the counts after some packets, and the report, which counts the bytes of the lines as
 // written.
-#[derive(Drop)]
+#[derive(Clone, Copy)]
 pub struct Gathered {
     pub chains: [Chain; CHAINS],
     pub counts: [u64; SORTS],
@@ -31,7 +31,7 @@ pub struct Gathered {
 }
 
 // A call with all chains by value: what it reports, and the chains after it.
-#[derive(Drop)]
+#[derive(Clone, Copy)]
 struct CollectedOfAll {
     report: Collected,
     chains: [Chain; CHAINS],

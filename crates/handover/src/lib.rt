@@ -22,7 +22,7 @@ const NOBODY: u8 = 0;
 const CHANNELS: usize = 16;
 
 // The answer, and the records that are to be emptied: so many from a place on.
-#[derive(Drop)]
+#[derive(Clone, Copy)]
 pub struct AnswerAndRow {
     pub answer: u32,
     pub from: usize,

@@ -14,7 +14,7 @@ use stream::{ANSWERED, NO_COUNTERPART};
 
 // The number of an identity, or 0 where it has none.
 #[repr(C)]
-#[derive(Drop)]
+#[derive(Clone, Copy)]
 pub struct Identity {
     pub answer: u32,
     pub number: u32,
@@ -22,7 +22,7 @@ pub struct Identity {
 
 // The bytes of an identity, of which the first `count` count, or none. The others are 0.
 #[repr(C)]
-#[derive(Drop)]
+#[derive(Clone, Copy)]
 pub struct Maker {
     pub answer: u32,
     pub count: u32,

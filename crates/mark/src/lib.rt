@@ -16,7 +16,7 @@ use stream::{ANSWERED, NO_TABLE, NOT_SOUND, OUT_OF_RANGE};
 pub use table::marked_table;
 
 // The answer, and the record after: as it was, where it is refused.
-#[derive(Drop)]
+#[derive(Clone, Copy)]
 pub struct AnswerAndRecord {
     pub answer: u32,
     pub after: Record,

@@ -37,7 +37,7 @@ pub const NO_CHAIN: usize = 32;
 
 // All of a piece but its bytes: its place in the message, the fields that it shares with the others, what
 // it adds to the number of packets, which only Flex Data counts, and how many bytes it has.
-#[derive(Drop)]
+#[derive(Clone, Copy)]
 pub struct Head {
     pub format: u32,
     pub shared: u32,

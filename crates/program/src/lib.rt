@@ -16,7 +16,7 @@ use tally::SORTS;
 pub use totals::Totals;
 
 // What becomes of the packets: `Only` has a group and a channel.
-#[derive(Drop)]
+#[derive(Clone, Copy)]
 pub enum Program {
     Lines,
     Up,
@@ -26,7 +26,7 @@ pub enum Program {
 }
 
 // What the packets of some words came to: the words read, and the bytes to write.
-#[derive(Drop)]
+#[derive(Clone, Copy)]
 pub struct Translated {
     pub table: Table,
     pub totals: Totals,

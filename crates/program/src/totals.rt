@@ -5,7 +5,7 @@ use stream::Done;
 use tally::SORTS;
 
 // The words read and written in all, and how often each sort of packet came, at its number.
-#[derive(Drop)]
+#[derive(Clone, Copy)]
 pub struct Totals {
     pub read: u64,
     pub written: u64,

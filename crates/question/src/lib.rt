@@ -20,7 +20,7 @@ pub const NO_KEY: u32 = 255;
 
 // What is answered: how many keys are down, and the lowest.
 #[repr(C)]
-#[derive(Drop)]
+#[derive(Clone, Copy)]
 pub struct KeysDown {
     pub answer: u32,
     pub down: u32,

@@ -25,14 +25,14 @@ const NO_BYTE: u32 = 0x100;
 const JR_TIMESTAMP: u32 = 2;
 
 // The last JR Timestamp, where there was one.
-#[derive(Drop)]
+#[derive(Clone, Copy)]
 pub enum Stamp {
     Missing,
     At(u16),
 }
 
 // What went before a packet: how many words, and the last stamp.
-#[derive(Drop)]
+#[derive(Clone, Copy)]
 pub struct Past {
     pub place: u64,
     pub stamp: Stamp,
@@ -40,7 +40,7 @@ pub struct Past {
 
 // What is said: of a packet that is dropped its place, the answer, how many words it has and the place of
 // its bad field; how many ticks lie between two stamps; how many bytes are left over; or an answer alone.
-#[derive(Drop)]
+#[derive(Clone, Copy)]
 pub enum Line {
     Nothing,
     Drop(u64, u32, usize, u32),

@@ -14,7 +14,7 @@ use stream::Done;
 pub use tell::{tell_end, tell_some};
 
 // What went before the next packet, and the report, which counts the bytes of the lines as written.
-#[derive(Drop)]
+#[derive(Clone, Copy)]
 pub struct Told {
     pub past: Past,
     pub done: Done,

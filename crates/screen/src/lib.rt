@@ -19,7 +19,7 @@ use ump::{Group, MIDI1_VOICE, MIDI2_VOICE, message_type, word_at};
 
 // What the screening finds of a packet: the answer that refuses it, or `GOES_ON`; and the place of the
 // first bad field, which is 0 with every answer but `BAD_DATA`.
-#[derive(Drop)]
+#[derive(Clone, Copy)]
 pub struct Screened {
     pub answer: u32,
     pub place: u32,

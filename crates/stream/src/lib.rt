@@ -90,7 +90,7 @@ pub const NOT_FOR_CABLE: u32 = 25;
 // What a call or a run reports. The place is that of the first bad field, and 0 with every answer but
 // `BAD_DATA`.
 #[repr(C)]
-#[derive(Drop)]
+#[derive(Clone, Copy)]
 pub struct Done {
     pub answer: u32,
     pub place: u32,

@@ -27,7 +27,7 @@ use voice::EffectAndReport;
 
 // What the loop is told: whether it is to make one call only, whether its records are known to be
 // sound, and which rule holds.
-#[derive(Drop)]
+#[derive(Clone, Copy)]
 pub struct Job {
     pub once: bool,
     pub known: bool,
@@ -35,7 +35,7 @@ pub struct Job {
 }
 
 // How far a call or a run is: the report so far, and whether another packet is to be treated.
-#[derive(Drop)]
+#[derive(Clone, Copy)]
 struct Progress {
     done: Done,
     more: bool,
@@ -43,7 +43,7 @@ struct Progress {
 
 // A report as the loop hands it over. No two fields stand side by side as in `Done`, so that each is copied by itself:
 // two that are copied at once wait until both are written.
-#[derive(Drop)]
+#[derive(Clone, Copy)]
 struct Ended {
     written: usize,
     answer: u32,
@@ -52,7 +52,7 @@ struct Ended {
 }
 
 // A table by value after a run, and the report.
-#[derive(Drop)]
+#[derive(Clone, Copy)]
 pub struct TableAndReport {
     pub records: [Record; RECORDS],
     pub done: Done,

@@ -20,7 +20,7 @@ pub const LAST_ANSWER: u32 = NOT_FOR_CABLE;
 pub const SORTS: usize = 33;
 
 // Which call is made at each packet: up, down, or out to the cable of a group.
-#[derive(Drop)]
+#[derive(Clone, Copy)]
 pub enum Way {
     Up,
     Down,

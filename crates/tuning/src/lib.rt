@@ -39,7 +39,7 @@ const ALL_NOTES_OFF: u8 = 123;
 const MOST_UNITS: u32 = 127;
 
 // Whether a note sounds, and with its own pitch, which its Note On brought as Pitch 7.9.
-#[derive(Drop)]
+#[derive(Clone, Copy)]
 pub enum Sound {
     Silent,
     Plain,
@@ -47,26 +47,26 @@ pub enum Sound {
 }
 
 // The Pitch 7.25 that came last for a note number.
-#[derive(Drop)]
+#[derive(Clone, Copy)]
 pub enum Tuned {
     Never,
     To(u32),
 }
 
 // What is known of a note number.
-#[derive(Drop)]
+#[derive(Clone, Copy)]
 pub struct Note {
     pub sound: Sound,
 }
 
-#[derive(Drop)]
+#[derive(Clone, Copy)]
 pub struct Tuning {
     pub tuned: Tuned,
 }
 
 // What is known of the desk's channel: its bend, and of each note number whether it sounds and what
 // Pitch 7.25 came for it.
-#[derive(Drop)]
+#[derive(Clone, Copy)]
 pub struct Desk {
     pub group: Group,
     pub channel: Channel,
@@ -76,7 +76,7 @@ pub struct Desk {
 }
 
 // What is answered for a note: what is shown, or why nothing is.
-#[derive(Drop)]
+#[derive(Clone, Copy)]
 pub struct Answer {
     pub answer: u32,
     pub shown: Shown,

@@ -16,7 +16,7 @@ pub use upward::up;
 
 // A call up: what is then remembered, the effect on the record, and the report. Whoever has the record
 // makes the effect.
-#[derive(Drop)]
+#[derive(Clone, Copy)]
 pub struct EffectAndReport {
     pub after: Memory,
     pub effect: u32,
