@@ -1,14 +1,18 @@
 // A line that a program says on standard error, put together piece by piece, with the refusals that
 // came in it.
 //
-// No contract can say what is written to a descriptor, so these functions are proved to be safe and to
-// end. A line that is longer than any should be is cut.
+// No contract can say what a terminal takes, so these functions are proved to be safe and to end. A line
+// that is longer than any should be is cut.
 #![tactic(auto)]
 
-use libc::STDERR_FILENO;
+use std::fmt::InlineText;
+use std::io::Write;
 
 // The most that a line can have, and more than any has.
 const LINE_BYTES: usize = 0x200;
+
+// As many digits as any number has.
+const DIGITS: usize = 20;
 
 // A line in the making: its first bytes, and whether a refusal is among them.
 #[derive(Drop)]
@@ -45,9 +49,8 @@ impl Line {
     }
 
     pub fn with_number(self, n: u64) -> Line {
-        let mut digits = [0u8; 20];
-        let k = io::decimal(n, &mut digits);
-        self.with(&digits[..k])
+        let digits = InlineText::<DIGITS>::of(n);
+        self.with(digits.as_str().as_bytes())
     }
 
     // With what stands before a refusal: the first one is announced.
@@ -88,16 +91,17 @@ impl Line {
             .with_number(times)
     }
 
-    fn put(self) {
+    fn put<E: Write>(self, errors: &mut E) {
         let bytes = self.bytes;
         let len = self.len;
         if len <= LINE_BYTES {
-            io::write_all(STDERR_FILENO, &bytes[..len]);
+            let _ = errors.write_all(&bytes[..len]);
         }
     }
 
-    // Writes it to standard error, with a line feed after it.
-    pub fn write(self) {
-        self.with(b"\n").put();
+    // Writes it to standard error, with a line feed after it. Where standard error takes nothing, nothing can
+    // be said.
+    pub fn write<E: Write>(self, errors: &mut E) {
+        self.with(b"\n").put(errors);
     }
 }
