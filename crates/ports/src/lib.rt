@@ -1,4 +1,5 @@
-// The two ends of a program: bytes that are read after those that are left, and bytes that are written.
+// The ends of a program: bytes that are read after those that are left, bytes that are written, and what is
+// said on standard error.
 //
 // No contract can say what a file or a terminal gives or takes, so these functions are proved to be safe
 // and to end, and a reading to leave no more bytes than its buffer holds. What failed is said on standard
@@ -16,6 +17,14 @@ pub struct Intake {
     pub have: usize,
     pub ended: bool,
     pub failed: bool,
+}
+
+// Where a program reads from and writes to, and where it says what failed.
+#[derive(Drop)]
+pub struct Streams<R, W, E> {
+    pub input: R,
+    pub output: W,
+    pub errors: E,
 }
 
 // More bytes than the text of an error has.
@@ -107,5 +116,19 @@ pub fn write_fails<W: Write, E: Write>(
             say_failed(errors, name, &error);
             true
         }
+    }
+}
+
+impl<R: Read, W: Write, E: Write> Streams<R, W, E> {
+    // Reads from the input after the bytes that are left, as `read_more` does.
+    pub fn read_more(&mut self, name: &[u8], bytes: &mut [u8], left: usize, waits: bool) -> Intake
+        ensures { result.have ≤ length bytes.new }
+    {
+        read_more(&mut self.input, &mut self.errors, name, bytes, left, waits)
+    }
+
+    // Whether the first bytes of the text could not all be written to the output.
+    pub fn write_fails(&mut self, name: &[u8], text: &[u8], n: usize) -> bool {
+        write_fails(&mut self.output, &mut self.errors, name, text, n)
     }
 }
