@@ -8,10 +8,12 @@
 
 use cable::{Cable, EXCLUSIVE};
 use exchange::{Side, pass_through};
-use libc::{STDIN_FILENO, STDOUT_FILENO};
 use notice::Ending;
+use ports::Streams;
 use program::Totals;
 use start::ChosenGroup;
+use std::env::Env;
+use std::io::{Read, Write};
 use stream::NO_ROOM;
 
 // The bytes of input that are held at once.
@@ -37,7 +39,8 @@ struct SocketState {
 
 // Reads once, takes what came through the socket, writes what it comes to and keeps the bytes that are
 // left.
-fn turn(
+fn turn<R: Read, W: Write, E: Write>(
+    streams: &mut Streams<R, W, E>,
     side: Side,
     group: u8,
     s: SocketState,
@@ -45,12 +48,12 @@ fn turn(
     words: &mut [u32],
     text: &mut [u8],
 ) -> SocketState {
-    let got = ports::read_more(STDIN_FILENO, b"standard input", bytes, s.left, s.waits);
+    let got = streams.read_more(b"standard input", bytes, s.left, s.waits);
     let have = got.have;
     let cable = s.cable;
     let totals = s.totals;
     let done = pass_through(side, group, cable, totals, &bytes[..have], words, text);
-    let failed = ports::write_fails(STDOUT_FILENO, b"standard output", text, done.bytes);
+    let failed = streams.write_fails(b"standard output", text, done.bytes);
     let left = wire::carry(bytes, done.read, have);
     let cable = done.cable;
     let totals = done.totals.if_written(failed, totals);
@@ -66,7 +69,11 @@ fn turn(
 
 // All turns, and none where an argument is wrong. As in every program, they are counted down from a
 // number that no input uses up.
-fn turns(side: Side, chosen: ChosenGroup) -> SocketState {
+fn turns<R: Read, W: Write, E: Write>(
+    streams: &mut Streams<R, W, E>,
+    side: Side,
+    chosen: ChosenGroup,
+) -> SocketState {
     let mut bytes = [0u8; INPUT_BYTES];
     let mut words = [0u32; WORDS];
     let mut text = [0u8; OUTPUT_BYTES];
@@ -82,7 +89,15 @@ fn turns(side: Side, chosen: ChosenGroup) -> SocketState {
     };
     let mut more = u64::MAX;
     while more > 0 && !(s.ended | s.failed) {
-        s = turn(side, chosen.group, s, &mut bytes, &mut words, &mut text);
+        s = turn(
+            streams,
+            side,
+            chosen.group,
+            s,
+            &mut bytes,
+            &mut words,
+            &mut text,
+        );
         more -= 1;
     }
     s
@@ -111,12 +126,24 @@ fn packet_ending(s: SocketState) -> Ending {
 }
 
 // The bytes of a cable on standard input become packets of the group that the argument names.
-pub fn import() {
-    let chosen = start::group_chosen(b"import");
-    let s = turns(Side::Import, chosen);
+pub fn import<V, R, W, E>(env: &V, input: R, output: W, errors: E)
+where
+    V: Env,
+    R: Read + Drop,
+    W: Write + Drop,
+    E: Write + Drop,
+{
+    let mut streams = Streams {
+        input,
+        output,
+        errors,
+    };
+    let chosen = start::group_chosen(env, &mut streams.errors, b"import");
+    let s = turns(&mut streams, Side::Import, chosen);
     let totals = s.totals;
     let counts = totals.counts;
     notice::say_import(
+        &mut streams.errors,
         b"import",
         totals.read,
         totals.written,
@@ -126,12 +153,24 @@ pub fn import() {
 }
 
 // The packets of standard input that are of the group become bytes for a cable.
-pub fn export() {
-    let chosen = start::group_chosen(b"export");
-    let s = turns(Side::Export, chosen);
+pub fn export<V, R, W, E>(env: &V, input: R, output: W, errors: E)
+where
+    V: Env,
+    R: Read + Drop,
+    W: Write + Drop,
+    E: Write + Drop,
+{
+    let mut streams = Streams {
+        input,
+        output,
+        errors,
+    };
+    let chosen = start::group_chosen(env, &mut streams.errors, b"export");
+    let s = turns(&mut streams, Side::Export, chosen);
     let totals = s.totals;
     let counts = totals.counts;
     notice::say_export(
+        &mut streams.errors,
         b"export",
         totals.read,
         totals.written,

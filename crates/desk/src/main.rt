@@ -1,5 +1,5 @@
 #![tactic(auto)]
 
-fn main() {
-    showing::desk();
+fn main(rt: HostRuntime) {
+    showing::desk(&rt, rt.stdin(), rt.stdout(), rt.stderr());
 }

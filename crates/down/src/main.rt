@@ -1,5 +1,5 @@
 #![tactic(auto)]
 
-fn main() {
-    filter::down();
+fn main(rt: HostRuntime) {
+    filter::down(&rt, rt.stdin(), rt.stdout(), rt.stderr());
 }

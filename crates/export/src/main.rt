@@ -1,5 +1,5 @@
 #![tactic(auto)]
 
-fn main() {
-    cablefilter::export();
+fn main(rt: HostRuntime) {
+    cablefilter::export(&rt, rt.stdin(), rt.stdout(), rt.stderr());
 }

@@ -10,11 +10,12 @@
 ghost use Rattle.std.specs.Prelude.{◌≡◌, ◌≤◌, length};
 
 use flow::{PANEL_BYTES, Table};
-use libc::{STDIN_FILENO, STDOUT_FILENO};
 use notice::Ending;
-use ports::Intake;
+use ports::{Intake, Streams};
 use program::{Program, Totals, translate};
 use start::{Start, Takes};
+use std::env::Env;
+use std::io::{Read, Write};
 use stream::NO_ROOM;
 
 // The bytes of input that are held at once, and the words in them.
@@ -40,19 +41,29 @@ struct FilterState {
 }
 
 // Reads standard input after the bytes that are left, unless packets among them wait.
-fn read_more(bytes: &mut [u8], left: usize, waits: bool) -> Intake
+fn read_more<R: Read, W: Write, E: Write>(
+    streams: &mut Streams<R, W, E>,
+    bytes: &mut [u8],
+    left: usize,
+    waits: bool,
+) -> Intake
     ensures { result.have ≤ length bytes.new }
 {
-    ports::read_more(STDIN_FILENO, b"standard input", bytes, left, waits)
+    streams.read_more(b"standard input", bytes, left, waits)
 }
 
 // Whether the first bytes of the text could not all be written.
-fn write_fails(text: &[u8], n: usize) -> bool {
-    ports::write_fails(STDOUT_FILENO, b"standard output", text, n)
+fn write_fails<R: Read, W: Write, E: Write>(
+    streams: &mut Streams<R, W, E>,
+    text: &[u8],
+    n: usize,
+) -> bool {
+    streams.write_fails(b"standard output", text, n)
 }
 
 // Reads once, translates the whole packets, writes what they come to and keeps the bytes that are left.
-fn turn(
+fn turn<R: Read, W: Write, E: Write>(
+    streams: &mut Streams<R, W, E>,
     program: Program,
     s: FilterState,
     bytes: &mut [u8],
@@ -60,13 +71,13 @@ fn turn(
     sent: &mut [u32],
     text: &mut [u8],
 ) -> FilterState {
-    let got = read_more(bytes, s.left, s.waits);
+    let got = read_more(streams, bytes, s.left, s.waits);
     let have = got.have;
     let n = wire::words_of(&bytes[..have], words);
     let table = s.table;
     let totals = s.totals;
     let translated = translate(program, table, totals, &words[..n], sent, text);
-    let failed = write_fails(text, translated.bytes);
+    let failed = write_fails(streams, text, translated.bytes);
     let left = wire::carry(bytes, 4 * translated.read, have);
     let table = translated.table;
     let totals = translated.totals.if_written(failed, totals);
@@ -82,7 +93,11 @@ fn turn(
 
 // All turns, and none where an argument is wrong. A proved loop has to end, and nothing says that the
 // input does: the turns are counted down from a number that no input uses up.
-fn turns(program: Program, start: Start) -> FilterState {
+fn turns<R: Read, W: Write, E: Write>(
+    streams: &mut Streams<R, W, E>,
+    program: Program,
+    start: Start,
+) -> FilterState {
     let mut bytes = [0u8; INPUT_BYTES];
     let mut words = [0u32; INPUT_WORDS];
     let mut sent = [0u32; OUTPUT_WORDS];
@@ -99,7 +114,9 @@ fn turns(program: Program, start: Start) -> FilterState {
     };
     let mut more = u64::MAX;
     while more > 0 && !(s.ended | s.failed) {
-        s = turn(program, s, &mut bytes, &mut words, &mut sent, &mut text);
+        s = turn(
+            streams, program, s, &mut bytes, &mut words, &mut sent, &mut text,
+        );
         more -= 1;
     }
     s
@@ -118,60 +135,125 @@ fn ending(s: FilterState) -> Ending {
     }
 }
 
-fn say_filter(name: &[u8], s: FilterState) {
+fn say_filter<E: Write>(errors: &mut E, name: &[u8], s: FilterState) {
     let totals = s.totals;
     let counts = totals.counts;
-    notice::say_filter(name, totals.read, totals.written, counts, ending(s));
+    notice::say_filter(errors, name, totals.read, totals.written, counts, ending(s));
 }
 
 // A line for each packet of standard input going up, and a last one for a cut packet.
-pub fn listing() {
-    let start = start::taken(b"listing", Takes::Channels);
-    let s = turns(Program::Lines, start);
+pub fn listing<V, R, W, E>(env: &V, input: R, output: W, errors: E)
+where
+    V: Env,
+    R: Read + Drop,
+    W: Write + Drop,
+    E: Write + Drop,
+{
+    let mut streams = Streams {
+        input,
+        output,
+        errors,
+    };
+    let start = start::taken(env, &mut streams.errors, b"listing", Takes::Channels);
+    let s = turns(&mut streams, Program::Lines, start);
     if is_cut(s) {
-        write_fails(b"3 0\n", 4);
+        write_fails(&mut streams, b"3 0\n", 4);
     }
 }
 
 // The packets of standard input up.
-pub fn up() {
-    let start = start::taken(b"up", Takes::Channels);
-    let s = turns(Program::Up, start);
-    say_filter(b"up", s);
+pub fn up<V, R, W, E>(env: &V, input: R, output: W, errors: E)
+where
+    V: Env,
+    R: Read + Drop,
+    W: Write + Drop,
+    E: Write + Drop,
+{
+    let mut streams = Streams {
+        input,
+        output,
+        errors,
+    };
+    let start = start::taken(env, &mut streams.errors, b"up", Takes::Channels);
+    let s = turns(&mut streams, Program::Up, start);
+    say_filter(&mut streams.errors, b"up", s);
 }
 
 // The packets of standard input down, where no channel is marked: any argument is wrong.
-pub fn down() {
-    let start = start::taken(b"down", Takes::Nothing);
-    let s = turns(Program::Down, start);
-    say_filter(b"down", s);
+pub fn down<V, R, W, E>(env: &V, input: R, output: W, errors: E)
+where
+    V: Env,
+    R: Read + Drop,
+    W: Write + Drop,
+    E: Write + Drop,
+{
+    let mut streams = Streams {
+        input,
+        output,
+        errors,
+    };
+    let start = start::taken(env, &mut streams.errors, b"down", Takes::Nothing);
+    let s = turns(&mut streams, Program::Down, start);
+    say_filter(&mut streams.errors, b"down", s);
 }
 
 // The packets of standard input that are one channel's, which the two arguments name.
-pub fn only() {
-    let chosen = start::channel_chosen(b"only");
+pub fn only<V, R, W, E>(env: &V, input: R, output: W, errors: E)
+where
+    V: Env,
+    R: Read + Drop,
+    W: Write + Drop,
+    E: Write + Drop,
+{
+    let mut streams = Streams {
+        input,
+        output,
+        errors,
+    };
+    let chosen = start::channel_chosen(env, &mut streams.errors, b"only");
     let start = chosen.start;
-    let s = turns(Program::Only(chosen.group, chosen.channel), start);
-    say_filter(b"only", s);
+    let s = turns(
+        &mut streams,
+        Program::Only(chosen.group, chosen.channel),
+        start,
+    );
+    say_filter(&mut streams.errors, b"only", s);
 }
 
 // Writes the lines of the channels that have keys down.
-fn show(table: Table) {
+fn show<R: Read, W: Write, E: Write>(streams: &mut Streams<R, W, E>, table: Table) {
     let mut text = [0u8; PANEL_BYTES];
     let n = flow::panel(table, &mut text);
-    write_fails(&text, n);
+    write_fails(streams, &text, n);
 }
 
 // The keys that are down once the packets of standard input have gone up. Where the input could not be
 // read to its end, none are shown.
-pub fn panel() {
-    let start = start::taken(b"panel", Takes::Channels);
-    let s = turns(Program::Panel, start);
+pub fn panel<V, R, W, E>(env: &V, input: R, output: W, errors: E)
+where
+    V: Env,
+    R: Read + Drop,
+    W: Write + Drop,
+    E: Write + Drop,
+{
+    let mut streams = Streams {
+        input,
+        output,
+        errors,
+    };
+    let start = start::taken(env, &mut streams.errors, b"panel", Takes::Channels);
+    let s = turns(&mut streams, Program::Panel, start);
     let totals = s.totals;
     if s.ended {
         let table = s.table;
-        show(table);
+        show(&mut streams, table);
     }
     let counts = totals.counts;
-    notice::say_reader(b"panel", totals.read, counts, ending(s));
+    notice::say_reader(
+        &mut streams.errors,
+        b"panel",
+        totals.read,
+        counts,
+        ending(s),
+    );
 }

@@ -1,5 +1,5 @@
 #![tactic(auto)]
 
-fn main() {
-    cablefilter::import();
+fn main(rt: HostRuntime) {
+    cablefilter::import(&rt, rt.stdin(), rt.stdout(), rt.stderr());
 }

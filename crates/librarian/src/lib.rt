@@ -8,9 +8,11 @@
 
 use chains::{CHAINS, Chain};
 use gather::{gather_some, is_open};
-use libc::{STDIN_FILENO, STDOUT_FILENO};
 use notice::Ending;
+use ports::Streams;
 use start::Takes;
+use std::env::Env;
+use std::io::{Read, Write};
 use stream::NO_ROOM;
 use tally::SORTS;
 
@@ -40,28 +42,29 @@ struct LibrarianState {
 
 // Reads once, collects the whole packets, writes the lines that they come to and keeps the bytes that are
 // left.
-fn turn(
+fn turn<R: Read, W: Write, E: Write>(
+    streams: &mut Streams<R, W, E>,
     s: LibrarianState,
     bytes: &mut [u8],
     words: &mut [u32],
     buffer: &mut [u8],
     text: &mut [u8],
 ) -> LibrarianState {
-    let got = ports::read_more(STDIN_FILENO, b"standard input", bytes, s.left, s.waits);
+    let got = streams.read_more(b"standard input", bytes, s.left, s.waits);
     let have = got.have;
     let n = wire::words_of(&bytes[..have], words);
     let chains = s.chains;
     let counts = s.counts;
     let gathered = gather_some(chains, counts, buffer, &words[..n], text);
     let done = gathered.done;
-    let failed = ports::write_fails(STDOUT_FILENO, b"standard output", text, done.written);
+    let failed = streams.write_fails(b"standard output", text, done.written);
     let left = wire::carry(bytes, 4 * done.read, have);
     let chains = gathered.chains;
     let counts = gathered.counts;
     LibrarianState {
         chains,
         counts,
-        read: std::num::wrapping_add_u64(s.read, done.read as u64),
+        read: s.read.wrapping_add(done.read as u64),
         left,
         waits: done.answer == NO_ROOM,
         ended: got.ended,
@@ -71,7 +74,10 @@ fn turn(
 
 // All turns, and none where an argument is wrong. A proved loop has to end, and nothing says that the
 // input does: the turns are counted down from a number that no input uses up.
-fn turns(wrong: bool) -> LibrarianState {
+fn turns<R: Read, W: Write, E: Write>(
+    streams: &mut Streams<R, W, E>,
+    wrong: bool,
+) -> LibrarianState {
     let mut bytes = [0u8; INPUT_BYTES];
     let mut words = [0u32; INPUT_WORDS];
     let mut buffer = [0u8; BUFFER_BYTES];
@@ -87,7 +93,7 @@ fn turns(wrong: bool) -> LibrarianState {
     };
     let mut more = u64::MAX;
     while more > 0 && !(s.ended | s.failed) {
-        s = turn(s, &mut bytes, &mut words, &mut buffer, &mut text);
+        s = turn(streams, s, &mut bytes, &mut words, &mut buffer, &mut text);
         more -= 1;
     }
     s
@@ -117,9 +123,20 @@ fn ending(s: LibrarianState) -> Ending {
 }
 
 // The lines of the whole messages of standard input, and on standard error what was refused.
-pub fn whole() {
-    let start = start::taken(b"whole", Takes::Nothing);
-    let s = turns(start.wrong);
+pub fn whole<V, R, W, E>(env: &V, input: R, output: W, errors: E)
+where
+    V: Env,
+    R: Read + Drop,
+    W: Write + Drop,
+    E: Write + Drop,
+{
+    let mut streams = Streams {
+        input,
+        output,
+        errors,
+    };
+    let start = start::taken(env, &mut streams.errors, b"whole", Takes::Nothing);
+    let s = turns(&mut streams, start.wrong);
     let counts = s.counts;
-    notice::say_reader(b"whole", s.read, counts, ending(s));
+    notice::say_reader(&mut streams.errors, b"whole", s.read, counts, ending(s));
 }

@@ -1,5 +1,5 @@
 #![tactic(auto)]
 
-fn main() {
-    filter::listing();
+fn main(rt: HostRuntime) {
+    filter::listing(&rt, rt.stdin(), rt.stdout(), rt.stderr());
 }

@@ -1,12 +1,12 @@
 // Lines that a program says on standard error: what it refused of its input, and which argument is wrong.
 //
-// No contract can say what is written to a descriptor, so these functions are proved to be safe and to
-// end.
+// No contract can say what a terminal takes, so these functions are proved to be safe and to end.
 #![tactic(auto)]
 
 ghost use Rattle.std.specs.Prelude.{◌≤◌};
 
 use remark::Line;
+use std::io::Write;
 use stream::{BAD_DATA, NO_FORM};
 use tally::{LAST_ANSWER, SORTS};
 
@@ -54,55 +54,82 @@ fn reading(name: &[u8], read: u64, units: &[u8]) -> Line {
 }
 
 // Says the line, with what was refused and how the input ended, where there is something to say.
-fn say(line: Line, counts: [u64; SORTS], ending: Ending) {
+fn say<E: Write>(errors: &mut E, line: Line, counts: [u64; SORTS], ending: Ending) {
     let refused = with_refusals(line, counts);
     match ending {
         Ending::Whole => {
             if refused.refused {
-                refused.write();
+                refused.write(errors);
             }
         }
-        Ending::CutPacket => refused.with(b"; cut packet at the end").write(),
-        Ending::OpenMessage => refused.with(b"; message open at the end").write(),
-        Ending::OpenExclusive => refused.with(b"; exclusive open at the end").write(),
+        Ending::CutPacket => refused.with(b"; cut packet at the end").write(errors),
+        Ending::OpenMessage => refused.with(b"; message open at the end").write(errors),
+        Ending::OpenExclusive => refused.with(b"; exclusive open at the end").write(errors),
     }
 }
 
 // What a filter says at the end: the words read and those written, and nothing where nothing was refused
 // and nothing cut.
-pub fn say_filter(name: &[u8], read: u64, written: u64, counts: [u64; SORTS], ending: Ending) {
+pub fn say_filter<E: Write>(
+    errors: &mut E,
+    name: &[u8],
+    read: u64,
+    written: u64,
+    counts: [u64; SORTS],
+    ending: Ending,
+) {
     let line = reading(name, read, b" words, wrote ").with_number(written);
-    say(line, counts, ending);
+    say(errors, line, counts, ending);
 }
 
 // The same of a filter from the bytes of a cable to words.
-pub fn say_import(name: &[u8], read: u64, written: u64, counts: [u64; SORTS], ending: Ending) {
+pub fn say_import<E: Write>(
+    errors: &mut E,
+    name: &[u8],
+    read: u64,
+    written: u64,
+    counts: [u64; SORTS],
+    ending: Ending,
+) {
     let line = reading(name, read, b" bytes, wrote ")
         .with_number(written)
         .with(b" words");
-    say(line, counts, ending);
+    say(errors, line, counts, ending);
 }
 
 // The same of a filter from words to the bytes of a cable.
-pub fn say_export(name: &[u8], read: u64, written: u64, counts: [u64; SORTS], ending: Ending) {
+pub fn say_export<E: Write>(
+    errors: &mut E,
+    name: &[u8],
+    read: u64,
+    written: u64,
+    counts: [u64; SORTS],
+    ending: Ending,
+) {
     let line = reading(name, read, b" words, wrote ")
         .with_number(written)
         .with(b" bytes");
-    say(line, counts, ending);
+    say(errors, line, counts, ending);
 }
 
 // The same of a program that writes no words.
-pub fn say_reader(name: &[u8], read: u64, counts: [u64; SORTS], ending: Ending) {
-    say(reading(name, read, b" words"), counts, ending);
+pub fn say_reader<E: Write>(
+    errors: &mut E,
+    name: &[u8],
+    read: u64,
+    counts: [u64; SORTS],
+    ending: Ending,
+) {
+    say(errors, reading(name, read, b" words"), counts, ending);
 }
 
 // Says what is wrong with an argument, and its bytes as they came. Dots stand for those that are not
 // shown.
-pub fn say_wrong(name: &[u8], what: &[u8], argument: &[u8], more: bool) {
+pub fn say_wrong<E: Write>(errors: &mut E, name: &[u8], what: &[u8], argument: &[u8], more: bool) {
     let line = Line::empty().with(name).with(what).with(argument);
     if more {
-        line.with(b"...").write();
+        line.with(b"...").write(errors);
     } else {
-        line.write();
+        line.write(errors);
     }
 }

@@ -1,5 +1,5 @@
 #![tactic(auto)]
 
-fn main() {
-    filter::only();
+fn main(rt: HostRuntime) {
+    filter::only(&rt, rt.stdin(), rt.stdout(), rt.stderr());
 }

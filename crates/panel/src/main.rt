@@ -1,5 +1,5 @@
 #![tactic(auto)]
 
-fn main() {
-    filter::panel();
+fn main(rt: HostRuntime) {
+    filter::panel(&rt, rt.stdin(), rt.stdout(), rt.stderr());
 }

@@ -8,9 +8,11 @@
 
 ghost use Rattle.std.specs.Prelude.{◌≤◌, length};
 
-use libc::{STDIN_FILENO, STDOUT_FILENO};
 use notice::Ending;
+use ports::Streams;
 use screen::NEITHER_TYPE;
+use std::env::Env;
+use std::io::{Read, Write};
 use stream::NO_ROOM;
 use tally::{SORTS, one_more, sort_of};
 use tuning::Desk;
@@ -51,28 +53,29 @@ fn counted_all(counts: [u64; SORTS], words: &[u32]) -> [u64; SORTS] {
 }
 
 // Reads once, hears the whole packets, writes their lines and keeps the bytes that are left.
-fn turn(units: u32, s: State, bytes: &mut [u8], words: &mut [u32], text: &mut [u8]) -> State {
-    let got = ports::read_more(
-        STDIN_FILENO,
-        b"desk: standard input",
-        bytes,
-        s.left,
-        s.waits,
-    );
+fn turn<R: Read, W: Write, E: Write>(
+    streams: &mut Streams<R, W, E>,
+    units: u32,
+    s: State,
+    bytes: &mut [u8],
+    words: &mut [u32],
+    text: &mut [u8],
+) -> State {
+    let got = streams.read_more(b"desk: standard input", bytes, s.left, s.waits);
     let have = got.have;
     let n = wire::words_of(&bytes[..have], words);
     let desk = s.desk;
     let shown = display::show_some(desk, units, &words[..n], text);
     let done = shown.done;
     let read = done.read;
-    let failed = ports::write_fails(STDOUT_FILENO, b"desk: standard output", text, done.written);
+    let failed = streams.write_fails(b"desk: standard output", text, done.written);
     let counts = s.counts;
     let counts = counted_all(counts, &words[..read]);
     let left = wire::carry(bytes, 4 * read, have);
     let desk = shown.desk;
     State {
         desk,
-        read: std::num::wrapping_add_u64(s.read, read as u64),
+        read: s.read.wrapping_add(read as u64),
         counts,
         left,
         waits: done.answer == NO_ROOM,
@@ -83,7 +86,12 @@ fn turn(units: u32, s: State, bytes: &mut [u8], words: &mut [u32], text: &mut [u
 
 // All turns, and none where an argument is wrong. A proved loop has to end, and nothing says that the
 // input does: the turns are counted down from a number that no input uses up.
-fn turns(desk: Desk, units: u32, wrong: bool) -> State {
+fn turns<R: Read, W: Write, E: Write>(
+    streams: &mut Streams<R, W, E>,
+    desk: Desk,
+    units: u32,
+    wrong: bool,
+) -> State {
     let mut bytes = [0u8; INPUT_BYTES];
     let mut words = [0u32; INPUT_WORDS];
     let mut text = [0u8; TEXT_BYTES];
@@ -98,7 +106,7 @@ fn turns(desk: Desk, units: u32, wrong: bool) -> State {
     };
     let mut more = u64::MAX;
     while more > 0 && !(s.ended | s.failed) {
-        s = turn(units, s, &mut bytes, &mut words, &mut text);
+        s = turn(streams, units, s, &mut bytes, &mut words, &mut text);
         more -= 1;
     }
     s
@@ -115,12 +123,23 @@ fn ending(s: State) -> Ending {
 
 // The display of the channel that the first two arguments name, with the range that the third names; and
 // at the end a line on standard error about what was refused.
-pub fn desk() {
-    let asked = start::range_chosen(b"desk");
+pub fn desk<V, R, W, E>(env: &V, input: R, output: W, errors: E)
+where
+    V: Env,
+    R: Read + Drop,
+    W: Write + Drop,
+    E: Write + Drop,
+{
+    let mut streams = Streams {
+        input,
+        output,
+        errors,
+    };
+    let asked = start::range_chosen(env, &mut streams.errors, b"desk");
     let chosen = asked.chosen;
     let start = chosen.start;
     let desk = tuning::fresh_desk(Group(chosen.group), Channel(chosen.channel));
-    let s = turns(desk, asked.units as u32, start.wrong);
+    let s = turns(&mut streams, desk, asked.units as u32, start.wrong);
     let counts = s.counts;
-    notice::say_reader(b"desk", s.read, counts, ending(s));
+    notice::say_reader(&mut streams.errors, b"desk", s.read, counts, ending(s));
 }

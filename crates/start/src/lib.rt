@@ -8,11 +8,12 @@
 
 use argument::{Named, Number};
 use flow::Table;
-use libc::ENAMETOOLONG;
+use std::env::{Env, FillError};
+use std::io::Write;
 
 // What a program takes: channels to mark, one channel by two arguments, the same and a range by a third,
 // one group, or nothing.
-#[derive(Drop)]
+#[derive(Clone, Copy)]
 pub enum Takes {
     Channels,
     OneChannel,
@@ -63,25 +64,28 @@ const SHOWN_BYTES: usize = 0x100;
 const COARSE: u8 = 1;
 
 // The channel that an argument names. One that is too long to be shown whole names none.
-fn channel_in(i: usize) -> Named {
+fn channel_in<V: Env>(env: &V, i: usize) -> Named {
     let mut bytes = [0u8; SHOWN_BYTES];
-    let n = os::arg(i, &mut bytes);
-    if os::errno() == 0 {
-        argument::channel_named(&bytes[..n])
-    } else {
-        Named::Nothing
+    match env.arg(i, &mut bytes) {
+        Ok(n) => argument::channel_named(&bytes[..n]),
+        Err(_) => Named::Nothing,
     }
 }
 
 // Names a wrong argument.
-fn say_wrong(name: &[u8], what: &[u8], i: usize) {
+fn say_wrong<V: Env, E: Write>(env: &V, errors: &mut E, name: &[u8], what: &[u8], i: usize) {
     let mut bytes = [0u8; SHOWN_BYTES];
-    let n = os::arg(i, &mut bytes);
-    if os::errno() == ENAMETOOLONG {
-        notice::say_wrong(name, what, &bytes, true);
-    } else {
-        notice::say_wrong(name, what, &bytes[..n], false);
+    match env.arg(i, &mut bytes) {
+        Ok(n) => notice::say_wrong(errors, name, what, &bytes[..n], false),
+        Err(FillError::TooLong) => notice::say_wrong(errors, name, what, &bytes, true),
+        Err(FillError::NotPresent) => notice::say_wrong(errors, name, what, b"", false),
     }
+}
+
+// Whether there is an argument at a place.
+fn is_given<V: Env>(env: &V, i: usize) -> bool {
+    let mut bytes = [0u8; SHOWN_BYTES];
+    !matches!(env.arg(i, &mut bytes), Err(FillError::NotPresent))
 }
 
 impl Start {
@@ -94,8 +98,15 @@ impl Start {
         }
     }
 
-    fn and_wrong(self, name: &[u8], what: &[u8], i: usize) -> Start {
-        say_wrong(name, what, i);
+    fn and_wrong<V: Env, E: Write>(
+        self,
+        env: &V,
+        errors: &mut E,
+        name: &[u8],
+        what: &[u8],
+        i: usize,
+    ) -> Start {
+        say_wrong(env, errors, name, what, i);
         let table = self.table;
         Start { table, wrong: true }
     }
@@ -111,66 +122,111 @@ impl Start {
         }
     }
 
-    fn and_channel(self, name: &[u8], i: usize) -> Start {
-        let named = channel_in(i);
+    fn and_channel<V: Env, E: Write>(
+        self,
+        env: &V,
+        errors: &mut E,
+        name: &[u8],
+        i: usize,
+    ) -> Start {
+        let named = channel_in(env, i);
         match named {
-            Named::Nothing => self.and_wrong(name, b": not GROUP:CHANNEL, each 0 to 15: ", i),
+            Named::Nothing => self.and_wrong(
+                env,
+                errors,
+                name,
+                b": not GROUP:CHANNEL, each 0 to 15: ",
+                i,
+            ),
             Named::Channel(group, channel) => self.and_coarse(group, channel),
         }
     }
 
     // With one more argument looked at.
-    fn and_argument(self, name: &[u8], takes: Takes, i: usize) -> Start {
+    fn and_argument<V: Env, E: Write>(
+        self,
+        env: &V,
+        errors: &mut E,
+        name: &[u8],
+        takes: Takes,
+        i: usize,
+    ) -> Start {
         match takes {
-            Takes::Channels => self.and_channel(name, i),
-            Takes::OneChannel => self.and_wrong(name, b": takes GROUP and CHANNEL alone: ", i),
+            Takes::Channels => self.and_channel(env, errors, name, i),
+            Takes::OneChannel => self.and_wrong(
+                env,
+                errors,
+                name,
+                b": takes GROUP and CHANNEL alone: ",
+                i,
+            ),
             Takes::ChannelAndRange => {
-                self.and_wrong(name, b": takes GROUP, CHANNEL and UNITS alone: ", i)
+                self.and_wrong(
+                    env,
+                    errors,
+                    name,
+                    b": takes GROUP, CHANNEL and UNITS alone: ",
+                    i,
+                )
             }
-            Takes::OneGroup => self.and_wrong(name, b": takes GROUP alone: ", i),
-            Takes::Nothing => self.and_wrong(name, b": takes no arguments: ", i),
+            Takes::OneGroup => self.and_wrong(env, errors, name, b": takes GROUP alone: ", i),
+            Takes::Nothing => self.and_wrong(env, errors, name, b": takes no arguments: ", i),
         }
     }
 }
 
 // A fresh table in which the channel of each argument from a place on is marked.
-fn taken_from(name: &[u8], takes: Takes, from: usize) -> Start {
-    let n = os::arg_count();
+fn taken_from<V: Env, E: Write>(
+    env: &V,
+    errors: &mut E,
+    name: &[u8],
+    takes: Takes,
+    from: usize,
+) -> Start {
     let mut s = Start::fresh();
-    let mut i = from;
-    while i < n {
-        s = s.and_argument(name, takes, i);
-        i += 1;
+    for i in from..usize::MAX {
+        if !is_given(env, i) {
+            break;
+        }
+        s = s.and_argument(env, errors, name, takes, i);
     }
     s
 }
 
 // The same of all arguments. Argument 0 is the program itself.
-pub fn taken(name: &[u8], takes: Takes) -> Start {
-    taken_from(name, takes, 1)
+pub fn taken<V: Env, E: Write>(env: &V, errors: &mut E, name: &[u8], takes: Takes) -> Start {
+    taken_from(env, errors, name, takes, 1)
 }
 
 // The group or the channel that an argument names, or the units. One that is too long to be shown whole
 // names none.
-fn number_at(i: usize, units: bool) -> Number {
+fn number_at<V: Env>(env: &V, i: usize, units: bool) -> Number {
     let mut bytes = [0u8; SHOWN_BYTES];
-    let n = os::arg(i, &mut bytes);
-    if os::errno() != 0 {
-        return Number::None;
-    }
-    if units {
-        argument::units_in(&bytes[..n])
-    } else {
-        argument::number_in(&bytes[..n])
+    match env.arg(i, &mut bytes) {
+        Ok(n) => {
+            if units {
+                argument::units_in(&bytes[..n])
+            } else {
+                argument::number_in(&bytes[..n])
+            }
+        }
+        Err(_) => Number::None,
     }
 }
 
 // The same with a line for one that names none.
-fn number_named(name: &[u8], what: &[u8], i: usize, units: bool) -> OneNumber {
-    let number = number_at(i, units);
+fn number_named<V: Env, E: Write>(
+    env: &V,
+    errors: &mut E,
+    name: &[u8],
+    what: &[u8],
+    i: usize,
+    units: bool,
+) -> OneNumber {
+    let number = number_at(env, i, units);
     match number {
         Number::None => {
-            say_wrong(name, what, i);
+            say_wrong(env, errors, name, what, i);
             OneNumber {
                 number: 0,
                 wrong: true,
@@ -183,32 +239,64 @@ fn number_named(name: &[u8], what: &[u8], i: usize, units: bool) -> OneNumber {
     }
 }
 
-fn number_taken(name: &[u8], missing: &[u8], what: &[u8], i: usize, units: bool) -> OneNumber {
-    if os::arg_count() <= i {
-        notice::say_wrong(name, missing, b"", false);
+fn number_taken<V: Env, E: Write>(
+    env: &V,
+    errors: &mut E,
+    name: &[u8],
+    missing: &[u8],
+    what: &[u8],
+    i: usize,
+    units: bool,
+) -> OneNumber {
+    if !is_given(env, i) {
+        notice::say_wrong(errors, name, missing, b"", false);
         return OneNumber {
             number: 0,
             wrong: true,
         };
     }
-    number_named(name, what, i, units)
+    number_named(env, errors, name, what, i, units)
 }
 
 // The first argument as a group, and the second as a channel.
-fn group_taken(name: &[u8]) -> OneNumber {
+fn group_taken<V: Env, E: Write>(env: &V, errors: &mut E, name: &[u8]) -> OneNumber {
     let missing = b": GROUP is missing";
-    number_taken(name, missing, b": not a GROUP, 0 to 15: ", 1, false)
+    number_taken(
+        env,
+        errors,
+        name,
+        missing,
+        b": not a GROUP, 0 to 15: ",
+        1,
+        false,
+    )
 }
 
-fn channel_taken(name: &[u8]) -> OneNumber {
+fn channel_taken<V: Env, E: Write>(env: &V, errors: &mut E, name: &[u8]) -> OneNumber {
     let missing = b": CHANNEL is missing";
-    number_taken(name, missing, b": not a CHANNEL, 0 to 15: ", 2, false)
+    number_taken(
+        env,
+        errors,
+        name,
+        missing,
+        b": not a CHANNEL, 0 to 15: ",
+        2,
+        false,
+    )
 }
 
 // The third as the units of a range.
-fn units_taken(name: &[u8]) -> OneNumber {
+fn units_taken<V: Env, E: Write>(env: &V, errors: &mut E, name: &[u8]) -> OneNumber {
     let missing = b": UNITS is missing";
-    number_taken(name, missing, b": not UNITS, 0 to 127: ", 3, true)
+    number_taken(
+        env,
+        errors,
+        name,
+        missing,
+        b": not UNITS, 0 to 127: ",
+        3,
+        true,
+    )
 }
 
 fn choose(group: OneNumber, channel: OneNumber, rest: Start) -> Chosen {
@@ -225,18 +313,22 @@ fn choose(group: OneNumber, channel: OneNumber, rest: Start) -> Chosen {
 }
 
 // The channel that the two arguments name, by its group and its own number, and a fresh table.
-pub fn channel_chosen(name: &[u8]) -> Chosen {
-    let group = group_taken(name);
-    let channel = channel_taken(name);
-    choose(group, channel, taken_from(name, Takes::OneChannel, 3))
+pub fn channel_chosen<V: Env, E: Write>(env: &V, errors: &mut E, name: &[u8]) -> Chosen {
+    let group = group_taken(env, errors, name);
+    let channel = channel_taken(env, errors, name);
+    choose(
+        group,
+        channel,
+        taken_from(env, errors, name, Takes::OneChannel, 3),
+    )
 }
 
 // The channel and the range that the three arguments name.
-pub fn range_chosen(name: &[u8]) -> ChosenRange {
-    let group = group_taken(name);
-    let channel = channel_taken(name);
-    let units = units_taken(name);
-    let rest = taken_from(name, Takes::ChannelAndRange, 4);
+pub fn range_chosen<V: Env, E: Write>(env: &V, errors: &mut E, name: &[u8]) -> ChosenRange {
+    let group = group_taken(env, errors, name);
+    let channel = channel_taken(env, errors, name);
+    let units = units_taken(env, errors, name);
+    let rest = taken_from(env, errors, name, Takes::ChannelAndRange, 4);
     let table = rest.table;
     let rest = Start {
         table,
@@ -249,20 +341,20 @@ pub fn range_chosen(name: &[u8]) -> ChosenRange {
 }
 
 // The group that the first argument names, or 0 where there is none.
-fn group_or_0(name: &[u8]) -> OneNumber {
-    if os::arg_count() <= 1 {
+fn group_or_0<V: Env, E: Write>(env: &V, errors: &mut E, name: &[u8]) -> OneNumber {
+    if !is_given(env, 1) {
         return OneNumber {
             number: 0,
             wrong: false,
         };
     }
-    number_named(name, b": not a GROUP, 0 to 15: ", 1, false)
+    number_named(env, errors, name, b": not a GROUP, 0 to 15: ", 1, false)
 }
 
 // The group that the only argument names. Any further one is wrong.
-pub fn group_chosen(name: &[u8]) -> ChosenGroup {
-    let group = group_or_0(name);
-    let rest = taken_from(name, Takes::OneGroup, 2);
+pub fn group_chosen<V: Env, E: Write>(env: &V, errors: &mut E, name: &[u8]) -> ChosenGroup {
+    let group = group_or_0(env, errors, name);
+    let rest = taken_from(env, errors, name, Takes::OneGroup, 2);
     ChosenGroup {
         group: group.number,
         wrong: group.wrong | rest.wrong,

@@ -1,5 +1,5 @@
 #![tactic(auto)]
 
-fn main() {
-    filter::up();
+fn main(rt: HostRuntime) {
+    filter::up(&rt, rt.stdin(), rt.stdout(), rt.stderr());
 }

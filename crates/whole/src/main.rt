@@ -1,5 +1,5 @@
 #![tactic(auto)]
 
-fn main() {
-    librarian::whole();
+fn main(rt: HostRuntime) {
+    librarian::whole(&rt, rt.stdin(), rt.stdout(), rt.stderr());
 }
