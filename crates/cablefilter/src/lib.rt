@@ -9,7 +9,7 @@
 use cable::{Cable, EXCLUSIVE};
 use exchange::{Side, pass_through};
 use notice::Ending;
-use ports::Streams;
+pub use ports::Streams;
 use program::Totals;
 use start::ChosenGroup;
 use std::env::Env;
@@ -126,20 +126,9 @@ fn packet_ending(s: SocketState) -> Ending {
 }
 
 // The bytes of a cable on standard input become packets of the group that the argument names.
-pub fn import<V, R, W, E>(env: &V, input: R, output: W, errors: E)
-where
-    V: Env,
-    R: Read + Drop,
-    W: Write + Drop,
-    E: Write + Drop,
-{
-    let mut streams = Streams {
-        input,
-        output,
-        errors,
-    };
+pub fn import<V: Env, R: Read, W: Write, E: Write>(env: &V, streams: &mut Streams<R, W, E>) {
     let chosen = start::group_chosen(env, &mut streams.errors, b"import");
-    let s = turns(&mut streams, Side::Import, chosen);
+    let s = turns(streams, Side::Import, chosen);
     let totals = s.totals;
     let counts = totals.counts;
     notice::say_import(
@@ -153,20 +142,9 @@ where
 }
 
 // The packets of standard input that are of the group become bytes for a cable.
-pub fn export<V, R, W, E>(env: &V, input: R, output: W, errors: E)
-where
-    V: Env,
-    R: Read + Drop,
-    W: Write + Drop,
-    E: Write + Drop,
-{
-    let mut streams = Streams {
-        input,
-        output,
-        errors,
-    };
+pub fn export<V: Env, R: Read, W: Write, E: Write>(env: &V, streams: &mut Streams<R, W, E>) {
     let chosen = start::group_chosen(env, &mut streams.errors, b"export");
-    let s = turns(&mut streams, Side::Export, chosen);
+    let s = turns(streams, Side::Export, chosen);
     let totals = s.totals;
     let counts = totals.counts;
     notice::say_export(

@@ -1,5 +1,7 @@
 #![tactic(auto)]
 
+use showing::Streams;
+
 fn main(rt: HostRuntime) {
-    showing::desk(&rt, rt.stdin(), rt.stdout(), rt.stderr());
+    showing::desk(&rt, &mut Streams::new(rt.stdin(), rt.stdout(), rt.stderr()));
 }

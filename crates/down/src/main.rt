@@ -1,5 +1,7 @@
 #![tactic(auto)]
 
+use filter::Streams;
+
 fn main(rt: HostRuntime) {
-    filter::down(&rt, rt.stdin(), rt.stdout(), rt.stderr());
+    filter::down(&rt, &mut Streams::new(rt.stdin(), rt.stdout(), rt.stderr()));
 }

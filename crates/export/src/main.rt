@@ -1,5 +1,7 @@
 #![tactic(auto)]
 
+use cablefilter::Streams;
+
 fn main(rt: HostRuntime) {
-    cablefilter::export(&rt, rt.stdin(), rt.stdout(), rt.stderr());
+    cablefilter::export(&rt, &mut Streams::new(rt.stdin(), rt.stdout(), rt.stderr()));
 }

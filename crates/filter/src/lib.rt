@@ -11,7 +11,8 @@ ghost use Rattle.std.specs.Prelude.{◌≡◌, ◌≤◌, length};
 
 use flow::{PANEL_BYTES, Table};
 use notice::Ending;
-use ports::{Intake, Streams};
+use ports::Intake;
+pub use ports::Streams;
 use program::{Program, Totals, translate};
 use start::{Start, Takes};
 use std::env::Env;
@@ -142,81 +143,33 @@ fn say_filter<E: Write>(errors: &mut E, name: &[u8], s: FilterState) {
 }
 
 // A line for each packet of standard input going up, and a last one for a cut packet.
-pub fn listing<V, R, W, E>(env: &V, input: R, output: W, errors: E)
-where
-    V: Env,
-    R: Read + Drop,
-    W: Write + Drop,
-    E: Write + Drop,
-{
-    let mut streams = Streams {
-        input,
-        output,
-        errors,
-    };
+pub fn listing<V: Env, R: Read, W: Write, E: Write>(env: &V, streams: &mut Streams<R, W, E>) {
     let start = start::taken(env, &mut streams.errors, b"listing", Takes::Channels);
-    let s = turns(&mut streams, Program::Lines, start);
+    let s = turns(streams, Program::Lines, start);
     if is_cut(s) {
-        write_fails(&mut streams, b"3 0\n", 4);
+        write_fails(streams, b"3 0\n", 4);
     }
 }
 
 // The packets of standard input up.
-pub fn up<V, R, W, E>(env: &V, input: R, output: W, errors: E)
-where
-    V: Env,
-    R: Read + Drop,
-    W: Write + Drop,
-    E: Write + Drop,
-{
-    let mut streams = Streams {
-        input,
-        output,
-        errors,
-    };
+pub fn up<V: Env, R: Read, W: Write, E: Write>(env: &V, streams: &mut Streams<R, W, E>) {
     let start = start::taken(env, &mut streams.errors, b"up", Takes::Channels);
-    let s = turns(&mut streams, Program::Up, start);
+    let s = turns(streams, Program::Up, start);
     say_filter(&mut streams.errors, b"up", s);
 }
 
 // The packets of standard input down, where no channel is marked: any argument is wrong.
-pub fn down<V, R, W, E>(env: &V, input: R, output: W, errors: E)
-where
-    V: Env,
-    R: Read + Drop,
-    W: Write + Drop,
-    E: Write + Drop,
-{
-    let mut streams = Streams {
-        input,
-        output,
-        errors,
-    };
+pub fn down<V: Env, R: Read, W: Write, E: Write>(env: &V, streams: &mut Streams<R, W, E>) {
     let start = start::taken(env, &mut streams.errors, b"down", Takes::Nothing);
-    let s = turns(&mut streams, Program::Down, start);
+    let s = turns(streams, Program::Down, start);
     say_filter(&mut streams.errors, b"down", s);
 }
 
 // The packets of standard input that are one channel's, which the two arguments name.
-pub fn only<V, R, W, E>(env: &V, input: R, output: W, errors: E)
-where
-    V: Env,
-    R: Read + Drop,
-    W: Write + Drop,
-    E: Write + Drop,
-{
-    let mut streams = Streams {
-        input,
-        output,
-        errors,
-    };
+pub fn only<V: Env, R: Read, W: Write, E: Write>(env: &V, streams: &mut Streams<R, W, E>) {
     let chosen = start::channel_chosen(env, &mut streams.errors, b"only");
     let start = chosen.start;
-    let s = turns(
-        &mut streams,
-        Program::Only(chosen.group, chosen.channel),
-        start,
-    );
+    let s = turns(streams, Program::Only(chosen.group, chosen.channel), start);
     say_filter(&mut streams.errors, b"only", s);
 }
 
@@ -229,24 +182,13 @@ fn show<R: Read, W: Write, E: Write>(streams: &mut Streams<R, W, E>, table: Tabl
 
 // The keys that are down once the packets of standard input have gone up. Where the input could not be
 // read to its end, none are shown.
-pub fn panel<V, R, W, E>(env: &V, input: R, output: W, errors: E)
-where
-    V: Env,
-    R: Read + Drop,
-    W: Write + Drop,
-    E: Write + Drop,
-{
-    let mut streams = Streams {
-        input,
-        output,
-        errors,
-    };
+pub fn panel<V: Env, R: Read, W: Write, E: Write>(env: &V, streams: &mut Streams<R, W, E>) {
     let start = start::taken(env, &mut streams.errors, b"panel", Takes::Channels);
-    let s = turns(&mut streams, Program::Panel, start);
+    let s = turns(streams, Program::Panel, start);
     let totals = s.totals;
     if s.ended {
         let table = s.table;
-        show(&mut streams, table);
+        show(streams, table);
     }
     let counts = totals.counts;
     notice::say_reader(

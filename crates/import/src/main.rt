@@ -1,5 +1,7 @@
 #![tactic(auto)]
 
+use cablefilter::Streams;
+
 fn main(rt: HostRuntime) {
-    cablefilter::import(&rt, rt.stdin(), rt.stdout(), rt.stderr());
+    cablefilter::import(&rt, &mut Streams::new(rt.stdin(), rt.stdout(), rt.stderr()));
 }

@@ -9,7 +9,7 @@
 use chains::{CHAINS, Chain};
 use gather::{gather_some, is_open};
 use notice::Ending;
-use ports::Streams;
+pub use ports::Streams;
 use start::Takes;
 use std::env::Env;
 use std::io::{Read, Write};
@@ -123,20 +123,9 @@ fn ending(s: LibrarianState) -> Ending {
 }
 
 // The lines of the whole messages of standard input, and on standard error what was refused.
-pub fn whole<V, R, W, E>(env: &V, input: R, output: W, errors: E)
-where
-    V: Env,
-    R: Read + Drop,
-    W: Write + Drop,
-    E: Write + Drop,
-{
-    let mut streams = Streams {
-        input,
-        output,
-        errors,
-    };
+pub fn whole<V: Env, R: Read, W: Write, E: Write>(env: &V, streams: &mut Streams<R, W, E>) {
     let start = start::taken(env, &mut streams.errors, b"whole", Takes::Nothing);
-    let s = turns(&mut streams, start.wrong);
+    let s = turns(streams, start.wrong);
     let counts = s.counts;
     notice::say_reader(&mut streams.errors, b"whole", s.read, counts, ending(s));
 }

@@ -1,5 +1,7 @@
 #![tactic(auto)]
 
+use filter::Streams;
+
 fn main(rt: HostRuntime) {
-    filter::only(&rt, rt.stdin(), rt.stdout(), rt.stderr());
+    filter::only(&rt, &mut Streams::new(rt.stdin(), rt.stdout(), rt.stderr()));
 }

@@ -1,5 +1,7 @@
 #![tactic(auto)]
 
+use filter::Streams;
+
 fn main(rt: HostRuntime) {
-    filter::panel(&rt, rt.stdin(), rt.stdout(), rt.stderr());
+    filter::panel(&rt, &mut Streams::new(rt.stdin(), rt.stdout(), rt.stderr()));
 }

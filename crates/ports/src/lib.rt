@@ -6,7 +6,7 @@
 // error.
 #![tactic(auto)]
 
-ghost use Rattle.std.specs.Prelude.{◌≤◌, length};
+ghost use Rattle.std.specs.Prelude.{◌≡◌, ◌≤◌, length};
 
 use std::fmt::InlineText;
 use std::io::{Error, ErrorKind, Read, Write};
@@ -115,6 +115,20 @@ pub fn write_fails<W: Write, E: Write>(
         Err(error) => {
             say_failed(errors, name, &error);
             true
+        }
+    }
+}
+
+impl<R, W, E> Streams<R, W, E> {
+    pub fn new(input: R, output: W, errors: E) -> Streams<R, W, E>
+        ensures input { result.input ≡ input }
+        ensures output { result.output ≡ output }
+        ensures errors { result.errors ≡ errors }
+    {
+        Streams {
+            input,
+            output,
+            errors,
         }
     }
 }

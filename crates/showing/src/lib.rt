@@ -9,7 +9,7 @@
 ghost use Rattle.std.specs.Prelude.{◌≤◌, length};
 
 use notice::Ending;
-use ports::Streams;
+pub use ports::Streams;
 use screen::NEITHER_TYPE;
 use std::env::Env;
 use std::io::{Read, Write};
@@ -123,23 +123,12 @@ fn ending(s: State) -> Ending {
 
 // The display of the channel that the first two arguments name, with the range that the third names; and
 // at the end a line on standard error about what was refused.
-pub fn desk<V, R, W, E>(env: &V, input: R, output: W, errors: E)
-where
-    V: Env,
-    R: Read + Drop,
-    W: Write + Drop,
-    E: Write + Drop,
-{
-    let mut streams = Streams {
-        input,
-        output,
-        errors,
-    };
+pub fn desk<V: Env, R: Read, W: Write, E: Write>(env: &V, streams: &mut Streams<R, W, E>) {
     let asked = start::range_chosen(env, &mut streams.errors, b"desk");
     let chosen = asked.chosen;
     let start = chosen.start;
     let desk = tuning::fresh_desk(Group(chosen.group), Channel(chosen.channel));
-    let s = turns(&mut streams, desk, asked.units as u32, start.wrong);
+    let s = turns(streams, desk, asked.units as u32, start.wrong);
     let counts = s.counts;
     notice::say_reader(&mut streams.errors, b"desk", s.read, counts, ending(s));
 }

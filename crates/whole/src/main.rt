@@ -1,5 +1,7 @@
 #![tactic(auto)]
 
+use librarian::Streams;
+
 fn main(rt: HostRuntime) {
-    librarian::whole(&rt, rt.stdin(), rt.stdout(), rt.stderr());
+    librarian::whole(&rt, &mut Streams::new(rt.stdin(), rt.stdout(), rt.stderr()));
 }
