@@ -12,10 +12,11 @@ mod files;
 ghost use Rattle.std.specs.Prelude.{◌≡◌, ◌*◌, ◌≤◌, length};
 
 pub use files::rescue;
-use libc::{STDERR_FILENO, STDIN_FILENO, STDOUT_FILENO};
 use ports::Intake;
+pub use ports::Streams;
 use recording::{HEADER_BYTES, Line, Past};
 use rescuing::{keep_some, tell_some};
+use std::io::{Read, Write};
 use stream::{NO_ROOM, SENT};
 
 // The bytes of input that are held at once, and the words in them; no more are kept of them.
@@ -29,12 +30,13 @@ const TEXT_BYTES: usize = 0x10000;
 // More bytes than the last lines have, or an answer alone.
 const SHORT_BYTES: usize = 0x40;
 
-// Where bytes come from, where the clean recording goes and where the lines go.
-#[derive(Drop)]
-struct Ends {
-    from: i32,
-    clean: i32,
-    lines: i32,
+// What is said of the ends where one of them fails: where bytes come from, where the clean recording goes and
+// where the lines go.
+#[derive(Clone, Copy)]
+struct Names<'a> {
+    old: &'a [u8],
+    new: &'a [u8],
+    lines: &'a [u8],
 }
 
 // What goes on from one turn to the next. The bytes that are left stand at the front of the input. Where
@@ -93,16 +95,13 @@ fn treat(
     }
 }
 
-// Whether the first bytes of the lines could not all be written.
-fn say_fails(lines: i32, text: &[u8], n: usize) -> bool {
-    if lines == STDOUT_FILENO {
-        return ports::write_fails(lines, b"rescue: standard output", text, n);
-    }
-    ports::write_fails(lines, b"rescue: standard error", text, n)
-}
-
 // Reads until the header is there, or the input ends.
-fn read_header(from: i32, old: &[u8], bytes: &mut [u8]) -> Intake
+fn read_header<R: Read, E: Write>(
+    from: &mut R,
+    errors: &mut E,
+    old: &[u8],
+    bytes: &mut [u8],
+) -> Intake
     ensures { result.have ≤ length bytes.new }
 {
     let mut got = Intake {
@@ -112,30 +111,36 @@ fn read_header(from: i32, old: &[u8], bytes: &mut [u8]) -> Intake
     };
     let mut more = u64::MAX;
     while more > 0 && !(got.ended | got.failed | (HEADER_BYTES <= got.have)) {
-        got = ports::read_more(from, old, bytes, got.have, false);
+        got = ports::read_more(from, errors, old, bytes, got.have, false);
         more -= 1;
     }
     got
 }
 
 // Says an answer alone.
-fn say_answer(lines: i32, answer: u32) {
+fn say_answer<L: Write, E: Write>(lines: &mut L, errors: &mut E, name: &[u8], answer: u32) {
     let mut text = [0u8; SHORT_BYTES];
     let line = Line::Answer(answer);
     let n = line.put(&mut text, 0);
-    say_fails(lines, &text, n);
+    ports::write_fails(lines, errors, name, &text, n);
 }
 
 // Where a recording begins, the bytes behind its header are left at the front. Of anything else the
 // answer is said, and then it does not go on.
-fn begin(from: i32, old: &[u8], lines: i32, bytes: &mut [u8]) -> Progress {
-    let got = read_header(from, old, bytes);
+fn begin<R: Read, L: Write, E: Write>(
+    from: &mut R,
+    lines: &mut L,
+    errors: &mut E,
+    names: Names<'_>,
+    bytes: &mut [u8],
+) -> Progress {
+    let got = read_header(from, errors, names.old, bytes);
     let have = got.have;
     let answer = recording::header_answer(&bytes[..have]);
     let left = wire::carry(bytes, HEADER_BYTES, have);
     let unread = got.failed;
     if !unread & (answer != SENT) {
-        say_answer(lines, answer);
+        say_answer(lines, errors, names.lines, answer);
     }
     Progress {
         past: Past::start(),
@@ -147,10 +152,10 @@ fn begin(from: i32, old: &[u8], lines: i32, bytes: &mut [u8]) -> Progress {
 }
 
 // Reads once, writes what the whole packets come to and keeps the bytes that are left.
-fn turn(
-    ends: Ends,
-    old: &[u8],
-    new: &[u8],
+fn turn<R: Read, W: Write, L: Write, E: Write>(
+    ends: &mut Streams<R, W, E>,
+    lines: &mut L,
+    names: Names<'_>,
     s: Progress,
     bytes: &mut [u8],
     words: &mut [u32],
@@ -158,12 +163,12 @@ fn turn(
     clean: &mut [u8],
     text: &mut [u8],
 ) -> Progress {
-    let got = ports::read_more(ends.from, old, bytes, s.left, s.waits);
+    let got = ends.read_more(names.old, bytes, s.left, s.waits);
     let have = got.have;
     let past = s.past;
     let treated = treat(past, &bytes[..have], words, kept, clean, text);
-    let unclean = ports::write_fails(ends.clean, new, clean, treated.clean);
-    let unsaid = say_fails(ends.lines, text, treated.lines);
+    let unclean = ends.write_fails(names.new, clean, treated.clean);
+    let unsaid = ports::write_fails(lines, &mut ends.errors, names.lines, text, treated.lines);
     let left = wire::carry(bytes, 4 * treated.read, have);
     let past = treated.past;
     Progress {
@@ -177,7 +182,13 @@ fn turn(
 
 // All turns, until the input has ended and nothing waits. A proved loop has to end, and nothing says that
 // the input does: the turns are counted down from a number that no input uses up.
-fn turns(ends: Ends, old: &[u8], new: &[u8], begun: Progress, bytes: &mut [u8]) -> Progress {
+fn turns<R: Read, W: Write, L: Write, E: Write>(
+    ends: &mut Streams<R, W, E>,
+    lines: &mut L,
+    names: Names<'_>,
+    begun: Progress,
+    bytes: &mut [u8],
+) -> Progress {
     let mut words = [0u32; INPUT_WORDS];
     let mut kept = [0u32; INPUT_WORDS];
     let mut clean = [0u8; INPUT_BYTES];
@@ -186,7 +197,7 @@ fn turns(ends: Ends, old: &[u8], new: &[u8], begun: Progress, bytes: &mut [u8]) 
     let mut more = u64::MAX;
     while more > 0 && !(s.failed | (s.ended & !s.waits)) {
         s = turn(
-            ends, old, new, s, bytes, &mut words, &mut kept, &mut clean, &mut text,
+            ends, lines, names, s, bytes, &mut words, &mut kept, &mut clean, &mut text,
         );
         more -= 1;
     }
@@ -194,41 +205,45 @@ fn turns(ends: Ends, old: &[u8], new: &[u8], begun: Progress, bytes: &mut [u8]) 
 }
 
 // Everything behind the header: a new header, the packets that are kept, and what is said.
-fn rescue_rest(ends: Ends, old: &[u8], new: &[u8], begun: Progress, bytes: &mut [u8]) {
+fn rescue_rest<R: Read, W: Write, L: Write, E: Write>(
+    ends: &mut Streams<R, W, E>,
+    lines: &mut L,
+    names: Names<'_>,
+    begun: Progress,
+    bytes: &mut [u8],
+) {
     let header = recording::header_bytes();
-    if ports::write_fails(ends.clean, new, &header, HEADER_BYTES) {
+    if ends.write_fails(names.new, &header, HEADER_BYTES) {
         return;
     }
-    let s = turns(ends, old, new, begun, bytes);
+    let s = turns(ends, lines, names, begun, bytes);
     let past = s.past;
     if !s.failed {
         let mut text = [0u8; SHORT_BYTES];
         let n = rescuing::tell_end(past.place, s.left, &mut text);
-        say_fails(ends.lines, &text, n);
+        ports::write_fails(lines, &mut ends.errors, names.lines, &text, n);
     }
 }
 
-// From standard input to standard output.
-fn rescue_input() {
+// From standard input to standard output, with the lines on standard error.
+fn rescue_input<R: Read, W: Write, L: Write, E: Write>(
+    streams: &mut Streams<R, W, E>,
+    lines: &mut L,
+) {
+    let names = Names {
+        old: b"rescue: standard input",
+        new: b"rescue: standard output",
+        lines: b"rescue: standard error",
+    };
     let mut bytes = [0u8; INPUT_BYTES];
     let begun = begin(
-        STDIN_FILENO,
-        b"rescue: standard input",
-        STDERR_FILENO,
+        &mut streams.input,
+        lines,
+        &mut streams.errors,
+        names,
         &mut bytes,
     );
     if !begun.failed {
-        let ends = Ends {
-            from: STDIN_FILENO,
-            clean: STDOUT_FILENO,
-            lines: STDERR_FILENO,
-        };
-        rescue_rest(
-            ends,
-            b"rescue: standard input",
-            b"rescue: standard output",
-            begun,
-            &mut bytes,
-        );
+        rescue_rest(streams, lines, names, begun, &mut bytes);
     }
 }
