@@ -1,0 +1,5 @@
+-- `filter::turns` is safe and ends: the measure is the turns left.
+use Rattle.filter.proofs.turns.Given as goal
+
+abbrev pub decreases-loop-more : goal.decreases-loop-more
+decreases-loop-more l = l.more
