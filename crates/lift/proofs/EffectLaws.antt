@@ -2,7 +2,7 @@
 -- leaves to remember, and never both.
 use Prim.Native.Nat.{ℕ}
 use mathlib.Core.Path.{◌≡◌, refl}
-use mathlib.Core.Bool.{Bool, true, false}
+use mathlib.Core.Bool.{true, false}
 use lib.Dec.{eqb}
 use borrow.Author.Tests.{eqb-true}
 use Rattle.ground.proofs.Cases.{by_bool, choose}
@@ -16,7 +16,7 @@ use Rattle.lift.specs.Lift.{AssignableBank, AssignableIndex, BankHigh, BankLow, 
 use Rattle.lift.specs.Lift.{Nothing, Plain, RegisteredBank, RegisteredIndex, Reset}
 use Rattle.lift.specs.Lift.{Lifted, control_effect, control_of, controlled, data_high, data_low, effect_of, ends_notes, lift}
 use Rattle.lift.specs.Lift.{plain_effect}
-use Rattle.lift.specs.Played.{event, keys_after, record_after}
+use Rattle.lift.specs.Played.{event, record_after}
 
 -- a controller that releases every key is plain
 ends-plain : (i : ℕ) → ends_notes i ≡ true → control_of i ≡ Plain

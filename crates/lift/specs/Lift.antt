@@ -1,6 +1,6 @@
 -- Going up (RULES 6; 01 "The channel record"; 004 D.3; 02 M-105): of a memory and a MIDI 1.0 message, the memory after
 -- it and a MIDI 2.0 message or none.
-use Rattle.std.specs.Prelude.{ℕ, ◌+◌, ◌*◌, ◌%◌, ◌^◌, Bool, true, false, cond, ◌&&◌, ◌||◌, eqb}
+use Rattle.std.specs.Prelude.{ℕ, ◌+◌, ◌*◌, ◌%◌, ◌^◌, Bool, cond, ◌&&◌, ◌||◌, eqb}
 use Rattle.std.proofs.Math.Option.{Option, none, some}
 use Rattle.scale.specs.Scale.{up}
 use Rattle.memory.specs.declared.Memory.{Memory}

@@ -1,5 +1,5 @@
 -- What the functions of this crate hand back.
-use Rattle.std.specs.Prelude.{ℕ, ◌*◌, ◌%◌, ◌^◌, Bool, true, false}
+use Rattle.std.specs.Prelude.{ℕ, ◌*◌, ◌%◌, ◌^◌, true, false}
 use Rattle.std.proofs.Math.Option.{Option, none, some}
 use Rattle.scale.specs.Scale.{up}
 use Rattle.ump.specs.declared.Group.{Group}
