@@ -124,11 +124,11 @@ fn turns<R: Read, W: Write, E: Write>(
 }
 
 // Whether the input ended within a packet.
-fn is_cut(s: FilterState) -> bool {
+fn is_cut(s: &FilterState) -> bool {
     s.ended & (0 < s.left)
 }
 
-fn ending(s: FilterState) -> Ending {
+fn ending(s: &FilterState) -> Ending {
     if is_cut(s) {
         Ending::CutPacket
     } else {
@@ -136,17 +136,23 @@ fn ending(s: FilterState) -> Ending {
     }
 }
 
-fn say_filter<E: Write>(errors: &mut E, name: &[u8], s: FilterState) {
-    let totals = s.totals;
-    let counts = totals.counts;
-    notice::say_filter(errors, name, totals.read, totals.written, counts, ending(s));
+fn say_filter<E: Write>(errors: &mut E, name: &[u8], s: &FilterState) {
+    let totals = &s.totals;
+    notice::say_filter(
+        errors,
+        name,
+        totals.read,
+        totals.written,
+        totals.counts,
+        ending(s),
+    );
 }
 
 // A line for each packet of standard input going up, and a last one for a cut packet.
 pub fn listing<V: Env, R: Read, W: Write, E: Write>(env: &V, streams: &mut Streams<R, W, E>) {
     let start = start::taken(env, &mut streams.errors, b"listing", Takes::Channels);
     let s = turns(streams, Program::Lines, start);
-    if is_cut(s) {
+    if is_cut(&s) {
         write_fails(streams, b"3 0\n", 4);
     }
 }
@@ -155,14 +161,14 @@ pub fn listing<V: Env, R: Read, W: Write, E: Write>(env: &V, streams: &mut Strea
 pub fn up<V: Env, R: Read, W: Write, E: Write>(env: &V, streams: &mut Streams<R, W, E>) {
     let start = start::taken(env, &mut streams.errors, b"up", Takes::Channels);
     let s = turns(streams, Program::Up, start);
-    say_filter(&mut streams.errors, b"up", s);
+    say_filter(&mut streams.errors, b"up", &s);
 }
 
 // The packets of standard input down, where no channel is marked: any argument is wrong.
 pub fn down<V: Env, R: Read, W: Write, E: Write>(env: &V, streams: &mut Streams<R, W, E>) {
     let start = start::taken(env, &mut streams.errors, b"down", Takes::Nothing);
     let s = turns(streams, Program::Down, start);
-    say_filter(&mut streams.errors, b"down", s);
+    say_filter(&mut streams.errors, b"down", &s);
 }
 
 // The packets of standard input that are one channel's, which the two arguments name.
@@ -170,7 +176,7 @@ pub fn only<V: Env, R: Read, W: Write, E: Write>(env: &V, streams: &mut Streams<
     let chosen = start::channel_chosen(env, &mut streams.errors, b"only");
     let start = chosen.start;
     let s = turns(streams, Program::Only(chosen.group, chosen.channel), start);
-    say_filter(&mut streams.errors, b"only", s);
+    say_filter(&mut streams.errors, b"only", &s);
 }
 
 // Writes the lines of the channels that have keys down.
@@ -185,17 +191,16 @@ fn show<R: Read, W: Write, E: Write>(streams: &mut Streams<R, W, E>, table: Tabl
 pub fn panel<V: Env, R: Read, W: Write, E: Write>(env: &V, streams: &mut Streams<R, W, E>) {
     let start = start::taken(env, &mut streams.errors, b"panel", Takes::Channels);
     let s = turns(streams, Program::Panel, start);
+    let ending = ending(&s);
     let totals = s.totals;
     if s.ended {
-        let table = s.table;
-        show(streams, table);
+        show(streams, s.table);
     }
-    let counts = totals.counts;
     notice::say_reader(
         &mut streams.errors,
         b"panel",
         totals.read,
-        counts,
-        ending(s),
+        totals.counts,
+        ending,
     );
 }

@@ -2,4 +2,4 @@
 use Rattle.cablefilter.proofs.turns.Given as goal
 
 abbrev pub decreases-loop-more : goal.decreases-loop-more
-decreases-loop-more l = l.more
+decreases-loop-more _ l = l.more

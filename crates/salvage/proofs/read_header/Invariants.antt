@@ -4,7 +4,7 @@ use Rattle.std.proofs.Common.{◌≤◌, length}
 use Rattle.salvage.proofs.read_header.Given as goal
 
 abbrev pub invariant-loop-more : goal.invariant-loop-more
-invariant-loop-more l = l.got.have ≤ length l.bytes
+invariant-loop-more _ l = l.got.have ≤ length l.bytes
 
 abbrev pub decreases-loop-more : goal.decreases-loop-more
-decreases-loop-more l = l.more
+decreases-loop-more _ l = l.more
