@@ -10,4 +10,5 @@ returns-then-memory-eq-REGISTERED c = simp (c.sent_up.ensures, c.if-memory-eq-RE
 
 pub returns-else-memory-eq-REGISTERED : goal.returns-else-memory-eq-REGISTERED
 unfolding addressed2 first2 second2
-returns-else-memory-eq-REGISTERED c = simp (tests, c.sent_up-else-memory-eq-REGISTERED.ensures, c.if-memory-eq-REGISTERED.false, c.fourteen-value.ensures)
+returns-else-memory-eq-REGISTERED c =
+    simp (tests, c.sent_up-else-memory-eq-REGISTERED.ensures, c.if-memory-eq-REGISTERED.false, c.fourteen-value.ensures)

@@ -6,8 +6,10 @@ use Rattle.lift.proofs.program.Goals as goal
 
 pub returns-then-high-low : goal.returns-then-high-low
 unfolding banked2 effect_of first2 lift second2
-returns-then-high-low c = simp (tests, c.sent_up.ensures, c.if-high-low.true, c.data1.ensures, c.with_bank_spent-after.ensures)
+returns-then-high-low c =
+    simp (tests, c.sent_up.ensures, c.if-high-low.true, c.data1.ensures, c.with_bank_spent-after.ensures)
 
 pub returns-else-high-low : goal.returns-else-high-low
 unfolding banked2 effect_of first2 lift second2
-returns-else-high-low c = simp (tests, c.sent_up-else-high-low.ensures, c.if-high-low.false, c.data1.ensures, c.with_bank_spent-after.ensures)
+returns-else-high-low c =
+    simp (tests, c.sent_up-else-high-low.ensures, c.if-high-low.false, c.data1.ensures, c.with_bank_spent-after.ensures)
