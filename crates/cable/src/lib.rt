@@ -24,7 +24,7 @@ pub const SIX: u8 = 6;
 
 // What is remembered of a cable: plain numbers, which a caller may keep and lend again.
 #[repr(C)]
-#[derive(Drop)]
+#[derive(Clone, Copy)]
 pub struct Cable {
     // The voice status that data bytes alone may repeat, or 0.
     pub running: u8,
@@ -39,7 +39,7 @@ pub struct Cable {
 
 // The same while bytes are heard: the first two held bytes stand in `high` and the other four in `low`,
 // as in the two words of the packet that they become.
-#[derive(Drop)]
+#[derive(Clone, Copy)]
 pub struct Receiver {
     pub running: u8,
     pub status: u8,
