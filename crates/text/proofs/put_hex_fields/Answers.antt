@@ -1,0 +1,23 @@
+-- `text::put_hex_fields` meets its contract. The loop's invariant: the fields of the words passed are stored. The
+-- measure is the words left. Assumes nothing.
+use mathlib.Core.Path.{refl, ◌∙◌}
+use native.Mathlib.Omega.{arith}
+use lib.ListN.{length-set}
+use Rattle.text.specs.Lines.{fields_of}
+use Rattle.text.proofs.LineLaws.{fields-more}
+use Rattle.text.proofs.put_hex_fields.Goals as goal
+
+pub loop-i-init : goal.loop-i-init
+unfolding fields_of
+loop-i-init c = (omega arith, omega arith, refl, refl)
+
+pub loop-i-preserved : goal.loop-i-preserved
+loop-i-preserved c =
+    let a = c.args in
+    let l = c.loop-i in (
+      omega arith,
+      omega arith,
+      (simp length-set at c.spell.auto.out) ∙ l.invariant.2,
+      rw (c.spell.ensures, l.invariant.3, l.invariant.1)
+          (fields-more 8 a.out.now a.words.now a.to l.i c.loop-i-test.true),
+    )
