@@ -1,4 +1,5 @@
--- `text::put_place` meets its contract: nothing where there is no place, and else a space and its digits. Assumes nothing.
+-- `text::put_place` meets its contract: nothing where there is no place, and else a space and its digits. Assumes
+-- nothing.
 use mathlib.Core.Path.{refl}
 use native.Mathlib.Numerals.{add-one}
 use Rattle.text.proofs.LineLaws.{place-some}

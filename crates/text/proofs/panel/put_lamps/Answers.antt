@@ -16,6 +16,5 @@ loop-key-preserved c =
           (lamps-more a.out.now a.keys a.to l.key),
     )
 
--- ?
 pub loop-key-init : goal.loop-key-init
 loop-key-init c = (omega arith, refl, lamps-none _ _ _)

@@ -10,7 +10,8 @@ use Rattle.text.proofs.whole.dropped.Goals as goal
 
 pub put_dropped-requires : goal.put_dropped-requires
 put_dropped-requires c =
-    let bytes : let a = c.args in c.places-digits.result + c.head_bytes-head.result + 2 + 1 * 0 ≡ length (dropped_line a.answer a.chain) =
+    let bytes : let a = c.args in c.places-digits.result + c.head_bytes-head.result + 2 + 1 * 0
+        ≡ length (dropped_line a.answer a.chain) =
     let a = c.args in
     omega (arith, c.head_bytes-head.ensures.count, c.places-digits.ensures.count, dropped-length a.answer a.chain) in
     let a = c.args in
@@ -21,7 +22,8 @@ put_dropped-requires c =
 
 pub returns-then-has_room : goal.returns-then-has_room
 returns-then-has_room c =
-    let bytes : let a = c.args in c.places-digits.result + c.head_bytes-head.result + 2 + 1 * 0 ≡ length (dropped_line a.answer a.chain) =
+    let bytes : let a = c.args in c.places-digits.result + c.head_bytes-head.result + 2 + 1 * 0
+        ≡ length (dropped_line a.answer a.chain) =
     let a = c.args in
     omega (arith, c.head_bytes-head.ensures.count, c.places-digits.ensures.count, dropped-length a.answer a.chain) in
     let a = c.args in
@@ -34,7 +36,8 @@ returns-then-has_room c =
 
 pub returns-else-has_room : goal.returns-else-has_room
 returns-else-has_room c =
-    let bytes : let a = c.args in c.places-digits.result + c.head_bytes-head.result + 2 + 1 * 0 ≡ length (dropped_line a.answer a.chain) =
+    let bytes : let a = c.args in c.places-digits.result + c.head_bytes-head.result + 2 + 1 * 0
+        ≡ length (dropped_line a.answer a.chain) =
     let a = c.args in
     omega (arith, c.head_bytes-head.ensures.count, c.places-digits.ensures.count, dropped-length a.answer a.chain) in
     let a = c.args in

@@ -1,4 +1,5 @@
--- `text::whole::put_byte_fields` meets its contract. The loop's invariant: the fields of the bytes passed are stored. The
+-- `text::whole::put_byte_fields` meets its contract. The loop's invariant: the fields of the bytes passed are stored.
+-- The
 -- measure is the bytes left. Assumes nothing.
 use Prim.Native.Nat.{◌+◌, ◌*◌, ◌-◌, ◌≤◌}
 use mathlib.Core.Path.{◌≡◌}
