@@ -1,6 +1,6 @@
 /* Quernbrae: translates Universal MIDI Packets from MIDI 1.0 up to MIDI 2.0, and back down.
  *
- * Link target/staticlib/libquernbrae.a. The rules stand in docs/RULES.md; a comment here names its sections.
+ * Link crates/quernbrae/out/libquernbrae.a. The rules stand in docs/RULES.md; a comment here names its sections.
  *
  * Every function answers whatever it is given: any words, any table, any output. No content has to be checked first.
  * What is lent is a pointer and a number of elements, which the pointer must have; with 0 elements it may be null. A
