@@ -1,0 +1,12 @@
+-- `outlet::packets::export_all` meets its contract. The loop's invariant: what was done, and then the run from here, is
+-- the whole run. The measure is the words left. Assumes nothing.
+use Prim.Native.Nat.{◌-◌}
+use lib.ListN.{length}
+use Rattle.outlet.proofs.CallLaws.{Outs}
+use Rattle.outlet.proofs.packets.export_all.Given as goal
+
+abbrev pub invariant-loop-read : goal.invariant-loop-read
+invariant-loop-read l = Outs l.group l.words l.initial.out l.out l.read l.written
+
+abbrev pub decreases-loop-read : goal.decreases-loop-read
+decreases-loop-read l = length l.words - l.read
