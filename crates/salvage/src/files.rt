@@ -82,7 +82,7 @@ fn rescue_between<F: Read + Write + OpenFile + Drop, W: Write, E: Write>(
     let mut ends = Streams::new(from, clean, &mut *errors);
     rescue_rest(&mut ends, output, names, begun, bytes);
     if let Err(error) = ends.output.sync_all() {
-        ports::say_failed(&mut ends.errors, names.new, &error);
+        ports::say_failed(&mut *ends.errors, names.new, &error);
     }
 }
 
