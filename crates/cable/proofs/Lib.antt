@@ -1,4 +1,3 @@
 pub mod Ways
 pub mod PutLaws
-mod ReceiverLaws
 mod SoundWays

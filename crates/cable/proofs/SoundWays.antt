@@ -1,25 +1,15 @@
 -- Soundness by what is open: an exclusive, or nothing or a shorter message, of which at most one byte is held. Assumes
 -- nothing.
 use Prim.Native.Nat.{ℕ, ◌≤◌}
-use mathlib.Core.Path.{◌≡◌, refl, sym, ◌∙◌}
-use mathlib.Core.Bool.{Bool, true, false, ◌&&◌, ◌||◌}
+use mathlib.Core.Path.{◌≡◌, sym}
+use mathlib.Core.Bool.{Bool, true, ◌&&◌, ◌||◌}
 use native.Mathlib.Omega.{arith}
 use lib.Dec.{eqb, leb, ltb}
-use borrow.Author.Tests.{eqb-false, eqb-true, le-leb, le-ltb, lt-leb, ltb-true, ne_eqb}
+use borrow.Author.Tests.{eqb-true, le-ltb, ltb-true, ne_eqb}
 use Rattle.ground.proofs.Bools.{and-false, and_left, and_right, or-false}
 use Rattle.ground.proofs.Cases.{by_bool, choose}
 use Rattle.cable.specs.declared.Cable.{Cable}
-use Rattle.cable.specs.State.{held_at, need, slot, sound, sound_held, sound_running, voice_byte}
-
-zero_test : (x : ℕ) → leb x 0 ≡ eqb x 0
-zero_test x =
-    by_bool (eqb x 0) (λ t. le-leb x 0 (omega (arith, eqb-true x 0 t)) ∙ sym t)
-    (λ t. lt-leb x 0 (omega (arith, eqb-false x 0 t)) ∙ sym t)
-
-regroup : (a b c d : Bool) → (a && (b && (c && d))) ≡ ((a && (b && c)) && d)
-regroup true true c d = refl
-regroup true false c d = refl
-regroup false b c d = refl
+use Rattle.cable.specs.State.{need, sound, sound_held, sound_running, voice_byte}
 
 need-most : (b : ℕ) → need b ≤ 2
 unfolding need
@@ -28,25 +18,6 @@ need-most b =
     (λ _.
     choose (λ x. x ≤ 2) (eqb b 0xF1 || (eqb b 0xF3 || (leb 0xC0 b && ltb b 0xE0))) (λ _. omega arith)
     (λ _. choose (λ x. x ≤ 2) (leb 0xF0 b) (λ _. omega arith) (λ _. omega arith)))
-
--- with at most one byte held, the first place has it, and the others have 0
-pub held-short : (s : Cable) → s.count ≤ 1
-    → (slot s.count 0 (held_at s 0)
-    && (eqb (held_at s 1) 0
-    && (eqb (held_at s 2) 0 && (eqb (held_at s 3) 0 && (eqb (held_at s 4) 0 && eqb (held_at s 5) 0)))))
-    ≡ sound_held s
-held-short s h =
-    let n = s.count in
-    simp (
-      le-ltb 1 n h,
-      le-ltb 2 n (omega arith),
-      le-ltb 3 n (omega arith),
-      le-ltb 4 n (omega arith),
-      le-ltb 5 n (omega arith),
-      zero_test,
-    )
-    (regroup (slot n 0 (held_at s 0)) (eqb (held_at s 1) 0) (eqb (held_at s 2) 0)
-    (eqb (held_at s 3) 0 && (eqb (held_at s 4) 0 && eqb (held_at s 5) 0)))
 
 module _ (s : Cable) where
   abbrev begins : Bool
