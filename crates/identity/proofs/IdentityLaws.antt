@@ -7,25 +7,13 @@ use mathlib.Core.Logic.{◌↔◌, ◌⊎◌, inl, inr, ⊎_elim}
 use mathlib.Core.Option.{none, some}
 use mathlib.Core.List.{List, [], ◌∷◌}
 use native.Mathlib.Omega.{arith}
-use lib.ListN.{length, get_or}
+use lib.ListN.{length}
 use lib.Dec.{eqb, leb}
 use borrow.Author.Tests.{eqb-false, eqb-true, le-leb, leb-false, leb-true, lt-leb}
 use Rattle.identity.specs.Identity.{new_of, old_of}
 use Rattle.identity.specs.Claims.{Counterparts, Examples, OldForm, ThereAndBack, Without, examples}
 
--- a list by its length
-pub of_one : (s : List ℕ) → length s ≡ 1 → s ≡ get_or s 0 0 ∷ []
-of_one [] h = absurd (omega arith)
-of_one (a ∷ []) h = refl
-of_one (a ∷ b ∷ s) h = absurd (omega arith)
-
-pub of_three : (s : List ℕ) → length s ≡ 3 → s ≡ get_or s 0 0 ∷ get_or s 1 0 ∷ get_or s 2 0 ∷ []
-of_three [] h = absurd (omega arith)
-of_three (a ∷ []) h = absurd (omega arith)
-of_three (a ∷ b ∷ []) h = absurd (omega arith)
-of_three (a ∷ b ∷ c ∷ []) h = refl
-of_three (a ∷ b ∷ c ∷ d ∷ s) h = absurd (omega arith)
-
+-- a list of another length than one and three
 pub of_other : (s : List ℕ) → (length s ≡ 1 → ⊥) → (length s ≡ 3 → ⊥) → new_of s ≡ none
 unfolding new_of
 of_other [] h k = refl
