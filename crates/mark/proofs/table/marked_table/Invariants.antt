@@ -9,7 +9,8 @@ use Rattle.mark.proofs.table.marked_table.Given as goal
 
 abbrev pub invariant-loop-place : goal.invariant-loop-place
 invariant-loop-place l =
-    (l.place ≤ whole_table) × (length l.records ≡ whole_table) × (take l.place l.records ≡ marked_below l.coarse l.place)
+    (l.place ≤ whole_table) × (length l.records ≡ whole_table)
+    × (take l.place l.records ≡ marked_below l.coarse l.place)
 
 abbrev pub decreases-loop-place : goal.decreases-loop-place
 decreases-loop-place l = whole_table - l.place
