@@ -1,2 +1,1 @@
-pub mod ReaderOwns
 pub mod FrontLaws
