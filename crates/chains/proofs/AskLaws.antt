@@ -1,23 +1,21 @@
 -- What is asked of a packet before its chain, by a yes or no: which packets a chain is asked about, and which are good.
 -- Assumes nothing.
-use Prim.Native.Nat.{ℕ, zero, suc, ◌+◌, ◌<◌, ◌≤◌}
+use Prim.Native.Nat.{ℕ, zero, suc, ◌+◌, ◌<◌}
 use mathlib.Core.Path.{◌≡◌, refl, sym, ap, ◌∙◌}
 use mathlib.Core.Bool.{Bool, true, false, cond, not, ◌&&◌}
-use mathlib.Core.List.{List, []}
-use mathlib.Core.Logic.{◌⊎◌, inl, inr}
+use mathlib.Core.List.{List}
 use native.Mathlib.Omega.{arith}
 use lib.Dec.{eqb, leb}
-use lib.ListN.{drop, get_or, length}
-use borrow.Author.Tests.{eq-eqb, eqb-false, eqb-true, ne_eqb}
+use lib.ListN.{length}
+use borrow.Author.Tests.{ne_eqb}
 use Rattle.ground.proofs.Bools.{and-false, and-true}
 use Rattle.ump.specs.Word.{byte1, byte2, byte3, byte4, count, group_of, message_type, status, voice1, voice2}
-use Rattle.ump.specs.Packet.{first, packet, second}
+use Rattle.ump.specs.Packet.{first, second}
 use Rattle.fields.specs.Check.{bad_place, checked_fields, exclusive_fields, good_fields, good_status, good_unchanged}
 use Rattle.fields.specs.Check.{unchanged}
 use Rattle.fields.specs.Check.{voice1_fields, voice1_status}
 use Rattle.fields.proofs.CheckLaws.{counted-good}
-use Rattle.stream.specs.Answers.{bad_address, bad_data, bad_status, reserved_type, taken_in}
-use Rattle.screen.specs.declared.Screened.{Screened}
+use Rattle.stream.specs.Answers.{bad_address, bad_data, bad_status, reserved_type}
 use Rattle.screen.specs.Screen.{admitted, answering, goes_on, neither_type, outside, reserved, screen, screen_by}
 use Rattle.piece.specs.Piece.{address_of, chain_by, chain_for, exclusive, flex, no_chain, strange_address}
 use Rattle.chains.specs.Collect.{of_chain, sort_by, sorted}

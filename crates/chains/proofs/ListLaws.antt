@@ -1,37 +1,34 @@
 -- A call and a turn with the chain in the packet's slot are those over the list of 32. Assumes nothing.
-use Prim.Native.Nat.{ℕ, ◌+◌, ◌<◌, ◌≤◌}
-use mathlib.Core.Path.{◌≡◌, refl, sym, ap, ◌∙◌}
-use mathlib.Core.Bool.{Bool, true, false, false≢true, cond, not, ◌&&◌, ◌||◌}
+use Prim.Native.Nat.{ℕ, ◌<◌}
+use mathlib.Core.Path.{◌≡◌, sym, ap, ◌∙◌}
+use mathlib.Core.Bool.{true, false, false≢true, not, ◌&&◌}
 use mathlib.Core.List.{List}
 use mathlib.Core.Logic.{◌⊎◌, inl, inr}
 use native.Mathlib.Omega.{arith}
-use lib.Dec.{eqb, ltb}
+use lib.Dec.{eqb}
 use lib.ListN.{drop, get_or, length, set, length-set}
 use lib.Seq.{set-get_or}
-use borrow.Author.Tests.{eq-eqb, lt-ltb, ne_eqb}
+use borrow.Author.Tests.{eq-eqb, lt-ltb}
 use Rattle.ground.proofs.Bools.{and-false}
 use Rattle.ump.specs.Packet.{first, packet}
-use Rattle.stream.specs.Answers.{bad_address, cut_packet, sent}
+use Rattle.stream.specs.Answers.{bad_address, cut_packet}
 use Rattle.screen.specs.Screen.{goes_on}
 use Rattle.piece.specs.Piece.{no_chain, slot_by}
 use Rattle.piece.proofs.PieceLaws.{slot-chain, slot-low}
-use Rattle.chains.specs.declared.Called.{Called}
 use Rattle.chains.specs.declared.Chain.{Chain}
 use Rattle.chains.specs.declared.Collected.{Collected}
-use Rattle.chains.specs.declared.Progress.{Progress}
-use Rattle.chains.specs.declared.Turned.{Turned}
 use Rattle.chains.specs.Step.{fresh}
 use Rattle.chains.specs.Collect.{buffer_after, buffer_with, chain_at, chain_of, chain_with, chains_after, collected}
 use Rattle.chains.specs.Collect.{collected_of}
 use Rattle.chains.specs.Collect.{buffer_of, chains_of, refusal_of, report_of, report_with, share, whole_list}
 use Rattle.chains.specs.Run.{drops, open_at}
-use Rattle.chains.specs.Turn.{called_with, progress_after, progress_of, turned_at}
+use Rattle.chains.specs.Turn.{progress_after, progress_of}
 use Rattle.chains.proofs.SortLaws.{chain-low, same_or_not}
 use Rattle.chains.proofs.CollectLaws.{buffer-same, chain_same, chains-same, report-beside, report-piece}
 use Rattle.chains.proofs.CollectLaws.{whole-buffer}
 use Rattle.chains.proofs.CollectLaws.{whole-chains, whole-report}
 use Rattle.chains.proofs.WithinLaws.{answer-other, buffer-length}
-use Rattle.chains.proofs.StandLaws.{first_of, piece-some, whole-at}
+use Rattle.chains.proofs.StandLaws.{first_of, whole-at}
 use Rattle.chains.proofs.TurnLaws.{quiet, refusal-cut}
 
 module _ (cs : List Chain) (b ws : List ℕ) (at : ℕ) where

@@ -1,10 +1,10 @@
 -- Bytes stored one after another are a row of stores, and a row is pasted. Assumes nothing.
 use Prim.Native.Nat.{ℕ, suc, ◌+◌, ◌≤◌}
-use mathlib.Core.Path.{◌≡◌, refl, sym, ap, ◌∙◌}
-use mathlib.Core.List.{List, [], ◌∷◌, ◌++◌}
+use mathlib.Core.Path.{◌≡◌, sym, ap, ◌∙◌}
+use mathlib.Core.List.{List, [], ◌∷◌}
 use native.Mathlib.Omega.{arith}
 use lib.ListN.{length, set}
-use lib.Seq.{length-sets, paste, sets, sets-eq}
+use lib.Seq.{paste, sets, sets-eq}
 use Rattle.ground.proofs.Stores.{sets-append}
 
 -- the places behind a place

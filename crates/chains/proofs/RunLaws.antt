@@ -1,16 +1,16 @@
 -- What the loop of a run keeps: while there is more, the words read and then the run from here are the whole run; else
 -- all is done. Assumes nothing.
-use Prim.Native.Nat.{ℕ, suc, ◌+◌, ◌-◌, ◌<◌, ◌≤◌}
-use mathlib.Core.Path.{◌≡◌, refl, sym, ap, ◌∙◌, subst}
-use mathlib.Core.Bool.{Bool, true, false, cond, ◌&&◌, ◌||◌}
-use mathlib.Core.List.{List, [], ◌∷◌}
+use Prim.Native.Nat.{ℕ, suc, ◌+◌, ◌<◌, ◌≤◌}
+use mathlib.Core.Path.{◌≡◌, refl, sym, ap, ◌∙◌}
+use mathlib.Core.Bool.{Bool, true, false, cond, ◌&&◌}
+use mathlib.Core.List.{List, ◌∷◌}
 use native.Mathlib.Omega.{arith}
 use lib.Dec.{eqb, ltb}
 use lib.ListN.{drop, get_or, length, take}
 use lib.Seq.{drop-cons}
-use borrow.Author.Tests.{eq-eqb, eqb-true, eqb-false, ltb-false, ltb-true, ne_eqb}
+use borrow.Author.Tests.{eqb-true, eqb-false, ltb-false, ltb-true}
 use Rattle.ground.proofs.Bools.{neither_left, neither_right}
-use Rattle.ground.proofs.Cases.{by_bool, not-both}
+use Rattle.ground.proofs.Cases.{not-both}
 use Rattle.ump.specs.Packet.{cut, first, packet, size}
 use Rattle.ump.proofs.PacketLaws.{cut_at, cut-end, packet-near, size-range}
 use Rattle.stream.specs.Answers.{bad_address, cut_packet, sent, taken_in}
@@ -19,10 +19,9 @@ use Rattle.piece.specs.Piece.{chain_by, piece_in}
 use Rattle.chains.specs.declared.Chain.{Chain}
 use Rattle.chains.specs.declared.Collected.{Collected}
 use Rattle.chains.specs.declared.Progress.{Progress}
-use Rattle.chains.specs.Step.{fresh, part_of, step_of}
-use Rattle.chains.specs.Collect.{beside, buffer_after, buffer_of, buffer_with, chain_at, chain_with, chains_after}
-use Rattle.chains.specs.Collect.{chains_of}
-use Rattle.chains.specs.Collect.{collected, collected_of, kept_open, part_at, refusal_of, report_of, report_with, share}
+use Rattle.chains.specs.Step.{part_of, step_of}
+use Rattle.chains.specs.Collect.{beside, buffer_after, buffer_with, chain_at, chain_with, chains_after}
+use Rattle.chains.specs.Collect.{collected, collected_of, kept_open, part_at, report_of, report_with, share}
 use Rattle.chains.specs.Collect.{sorted, unlisted, whole_list, with_part}
 use Rattle.chains.specs.Run.{Ran, behind, drops, further, open_at, run_of, run_over, stops}
 use Rattle.chains.specs.Turn.{begun, going_on, progress_of}

@@ -2,8 +2,8 @@
 -- and its bytes. Assumes nothing.
 use Prim.Native.Nat.{ℕ, ◌+◌, ◌-◌, ◌<◌, ◌≤◌}
 use mathlib.Core.Path.{◌≡◌, refl, sym, ap, ◌∙◌}
-use mathlib.Core.Bool.{Bool, true, false, cond, not, ◌&&◌}
-use mathlib.Core.List.{List, []}
+use mathlib.Core.Bool.{false, not, ◌&&◌}
+use mathlib.Core.List.{List}
 use mathlib.Core.Logic.{◌⊎◌, inl, inr}
 use native.Mathlib.Omega.{arith}
 use lib.Dec.{eqb, leb, ltb}
@@ -15,7 +15,6 @@ use Rattle.ump.specs.Word.{message_type, voice1, voice2}
 use Rattle.fields.specs.Check.{checked_fields, good_fields, good_status, good_unchanged, voice1_fields, voice1_status}
 use Rattle.ump.specs.Packet.{first, packet, second, size}
 use Rattle.ump.proofs.PacketLaws.{at_none, packet-end, packet-short, packet-whole-at, size-range}
-use Rattle.stream.specs.Answers.{cut_packet}
 use Rattle.screen.specs.Screen.{goes_on, neither_type, screen, screen_by}
 use Rattle.piece.specs.Piece.{exclusive, exclusive_bytes, exclusive_piece, flex, flex_bytes, flex_piece, piece_for, slot_by}
 use Rattle.piece.specs.Piece.{strange_address}

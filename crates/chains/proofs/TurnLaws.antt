@@ -1,26 +1,25 @@
 -- A call with one chain and a turn of a run, by the ways that their functions go: the packet is cut, its chain is
 -- asked, or it is told without. Assumes nothing.
-use Prim.Native.Nat.{ℕ, ◌+◌, ◌/◌, ◌<◌, ◌≤◌}
+use Prim.Native.Nat.{ℕ, ◌+◌, ◌≤◌}
 use mathlib.Core.Path.{◌≡◌, refl, sym, ap, ◌∙◌}
-use mathlib.Core.Bool.{Bool, true, false, cond, not, ◌&&◌, ◌||◌}
-use mathlib.Core.List.{List, []}
-use mathlib.Core.Logic.{◌⊎◌, inl, inr}
+use mathlib.Core.Bool.{Bool, true, false, not}
+use mathlib.Core.List.{List}
+use mathlib.Core.Logic.{inr}
 use native.Mathlib.Omega.{arith}
 use lib.Dec.{eqb, leb, ltb}
 use lib.ListN.{drop, get_or, length}
-use borrow.Author.Tests.{eq-eqb, eqb-false, eqb-true, le-leb, ne_eqb}
+use borrow.Author.Tests.{eq-eqb, eqb-false, eqb-true, ne_eqb}
 use Rattle.ground.proofs.Bools.{and-false, and_left}
 use Rattle.ground.proofs.Cases.{choose}
 use Rattle.ump.specs.Word.{group_of, message_type}
 use Rattle.ump.specs.Packet.{first, packet}
 use Rattle.ump.proofs.PacketLaws.{at_none}
 use Rattle.fields.specs.Check.{bad_place_of, good_status}
-use Rattle.stream.specs.Answers.{bad_address, bad_data, bad_status, cut_packet, out_of_turn, reserved_type, sent, taken_in}
-use Rattle.stream.specs.Answers.{too_long, too_many_packets, wrong_protocol}
+use Rattle.stream.specs.Answers.{bad_address, cut_packet, sent, taken_in}
 use Rattle.screen.specs.declared.Screened.{Screened}
 use Rattle.screen.specs.Screen.{admitted, answering, goes_on, neither_type, outside, reserved, screen, screen_by}
 use Rattle.piece.specs.declared.Head.{Head}
-use Rattle.piece.specs.Piece.{address_of, chain_by, chain_for, flex, head_by, head_of, no_chain, piece_for, slot_by}
+use Rattle.piece.specs.Piece.{address_of, chain_by, chain_for, flex, head_by, head_of, no_chain, slot_by}
 use Rattle.piece.specs.Piece.{Piece, strange_address}
 use Rattle.piece.proofs.PieceLaws.{head-any, piece-fine, slot-chain}
 use Rattle.chains.specs.declared.Called.{Called}
@@ -29,11 +28,11 @@ use Rattle.chains.specs.declared.Collected.{Collected}
 use Rattle.chains.specs.declared.Progress.{Progress}
 use Rattle.chains.specs.declared.Turned.{Turned}
 use Rattle.chains.specs.Step.{Stepped, base_of, finishes, part_of, step_of, strays, verdict, verdict_by}
-use Rattle.chains.specs.Collect.{beside, buffer_with, chain_of, chain_with, collected, kept_open, of_chain, part_at}
+use Rattle.chains.specs.Collect.{beside, buffer_with, chain_with, collected, kept_open, of_chain, part_at}
 use Rattle.chains.specs.Collect.{piece_of}
 use Rattle.chains.specs.Collect.{refusal_of, report_with, share, sort_by, sorted, with_part}
 use Rattle.chains.specs.Run.{drops, further}
-use Rattle.chains.specs.Turn.{bare, besides, called_with, chain_left, going_on, halts, named_by, onward, piece_at}
+use Rattle.chains.specs.Turn.{bare, besides, called_with, chain_left, going_on, named_by, onward, piece_at}
 use Rattle.chains.specs.Turn.{progress_after, turned_at}
 use Rattle.chains.proofs.SortLaws.{chain-low, screen-no-address}
 use Rattle.chains.proofs.StepLaws.{bare-left, step-answer, step_is, taken}

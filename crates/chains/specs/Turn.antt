@@ -1,6 +1,6 @@
 -- What the functions promise that see one chain by value, beside the definitions of a call and a run: a piece by its
 -- head and by the words from a place on, a call with one chain, and a turn of a run.
-use Rattle.std.specs.Prelude.{ℕ, ◌+◌, ◌*◌, ◌≤◌, ◌≡◌, Bool, true, false, cond, not, ◌&&◌, ◌||◌, List, [], drop, get_or, length, eqb, ltb}
+use Rattle.std.specs.Prelude.{ℕ, ◌+◌, ◌*◌, ◌≤◌, ◌≡◌, Bool, false, cond, not, ◌&&◌, ◌||◌, List, [], drop, get_or, length, eqb, ltb}
 use Rattle.ump.specs.Word.{message_type}
 use Rattle.stream.specs.Answers.{cut_packet, sent, taken_in}
 use Rattle.screen.specs.Screen.{answering, goes_on}

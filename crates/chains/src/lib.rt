@@ -101,6 +101,7 @@ pub fn is_dropping(answer: u32) -> bool
 }
 
 // The report of a packet that names no chain.
+#[tactic(auto, unfolding(crate::specs::Collect::beside))]
 fn beside(answer: u32, place: u32, read: usize) -> Collected
     ensures { result ≡ besides answer place read }
 {

@@ -18,6 +18,7 @@ use ump::{byte1, byte2, byte3, byte4, message_type};
 const MOST_PACKETS: u32 = 32;
 
 // Where the next bytes go.
+#[tactic(auto, unfolding(crate::specs::Step::base_of))]
 fn base_of(c: Chain) -> usize
     ensures { result ≡ base_of c }
 {
@@ -26,6 +27,7 @@ fn base_of(c: Chain) -> usize
 }
 
 // Whether a piece comes out of turn.
+#[tactic(auto, unfolding(crate::specs::Step::strays))]
 fn is_stray(c: Chain, x: Head) -> bool
     ensures { result ≡ strays c (bare x) }
 {
@@ -44,6 +46,7 @@ fn is_last(x: Head) -> bool
 }
 
 // The answer to a piece. Whether it fits is asked by differences, so that no length can be too large.
+#[tactic(auto, unfolding(crate::specs::Step::verdict_by))]
 fn verdict(stray: bool, packets: u32, base: usize, room: usize, count: usize, last: bool) -> u32
     ensures { result ≡ verdict_by stray packets base room count last }
 {
@@ -63,6 +66,7 @@ fn verdict(stray: bool, packets: u32, base: usize, room: usize, count: usize, la
 }
 
 // The chain with the piece in it.
+#[tactic(auto, unfolding(crate::specs::Step::grown))]
 fn grown(c: Chain, x: Head) -> Chain
     requires { (c.packets + x.adds ≤ 4294967295) × (base_of c + x.count ≤ 18446744073709551615) }
     ensures { result ≡ Step.grown c (bare x) }
@@ -92,6 +96,7 @@ fn grown(c: Chain, x: Head) -> Chain
 }
 
 // The chain after a refusal: with none open nothing is dropped.
+#[tactic(auto, unfolding(crate::specs::Step::refused_by))]
 fn refused(answer: u32, c: Chain) -> Chain
     ensures { result ≡ refused_by answer c }
 {
@@ -106,6 +111,7 @@ fn refused(answer: u32, c: Chain) -> Chain
 }
 
 // The chain after a piece, by its answer.
+#[tactic(auto, unfolding(crate::specs::Turn::chain_left))]
 pub(crate) fn after(answer: u32, c: Chain, x: Head) -> Chain
     requires { answer ≤ 1 → (c.packets + x.adds ≤ 4294967295)
         × (base_of c + x.count ≤ 18446744073709551615) }

@@ -22,6 +22,7 @@ fn going_on(at: usize, words: usize) -> Progress
 }
 
 // Before the first packet, with so many chains and words.
+#[tactic(auto, unfolding(crate::specs::Turn::begun))]
 pub fn start(chains: usize, words: usize) -> Progress
     ensures { result ≡ begun chains words }
 {
@@ -36,6 +37,7 @@ pub fn start(chains: usize, words: usize) -> Progress
 
 // After a piece that is told so, with all words read by then: a message that is whole and an open chain
 // that is dropped stop the run.
+#[tactic(auto, unfolding(crate::specs::Turn::onward))]
 fn onward(c: Chain, words: usize, report: Collected) -> Progress
     ensures { result ≡ Turn.onward c words report }
 {

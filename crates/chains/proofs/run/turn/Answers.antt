@@ -1,0 +1,124 @@
+-- `chains::run::turn`: the packet is cut, its chain is asked, or it is passed over; each way out is the definition's.
+use mathlib.Core.Path.{◌≡◌, sym, ap, ◌∙◌}
+use Prim.Native.Nat.{ℕ, ◌+◌, ◌/◌}
+use native.Mathlib.Omega.{arith}
+use lib.ListN.{drop, length, length-drop}
+use borrow.Author.Tests.{eqb-false, eqb-true}
+use Rattle.screen.specs.Screen.{goes_on}
+use Rattle.piece.proofs.PieceLaws.{slot-low}
+use Rattle.chains.specs.declared.Collected.{Collected}
+use Rattle.chains.specs.Collect.{refusal_of}
+use Rattle.chains.specs.Turn.{named_by}
+use Rattle.chains.proofs.CollectLaws.{buffer-same}
+use Rattle.chains.proofs.WithinLaws.{buffer-length}
+use Rattle.chains.proofs.StandLaws.{piece-some, standing, whole-at}
+use Rattle.ump.specs.Packet.{packet}
+use Rattle.ump.proofs.PacketLaws.{packet-length}
+use Rattle.chains.specs.declared.Progress.{Progress}
+use Rattle.chains.specs.Run.{further}
+use mathlib.Core.Bool.{false}
+use Rattle.chains.proofs.TurnLaws.{buffer-asked, chain-asked, fits-left, progress-asked, progress-cut}
+use Rattle.chains.proofs.TurnLaws.{progress-other, report-asked, turned-aside, turned-asked}
+use Rattle.chains.proofs.run.turn.Goals as goal
+
+stopped : Collected → Progress
+stopped r = record { report = r; more = false }
+
+pub returns-then-n-eq0-clause-turned : goal.returns-then-n-eq0-clause-turned
+unfolding stopped
+returns-then-n-eq0-clause-turned c =
+    let a = c.args in
+    let ws = a.words.now in
+    let z = sym c.whole_size-n.ensures ∙ c.if-n-eq0.true in
+    let e : refusal_of (drop a.at ws) ≡ goes_on → ⊥ = λ f. piece-some (drop a.at ws) f z in
+    turned-aside a.c a.buffer.now ws a.at _
+    (ap (λ (x : Collected). stopped x) c.beside.ensures ∙ progress-cut a.c a.at _ _ (drop a.at ws) z) e
+
+pub returns-then-n-eq0-clause-buffer : goal.returns-then-n-eq0-clause-buffer
+returns-then-n-eq0-clause-buffer c =
+    let a = c.args in
+    let ws = a.words.now in
+    let z = sym c.whole_size-n.ensures ∙ c.if-n-eq0.true in
+    let e : refusal_of (drop a.at ws) ≡ goes_on → ⊥ = λ f. piece-some (drop a.at ws) f z in
+    sym (buffer-same a.c a.buffer.now (drop a.at ws) e)
+
+pub overflow_add-end : goal.overflow_add-end
+overflow_add-end c =
+    let a = c.args in
+    let ws = a.words.now in
+    omega (arith, c.whole_size-n.ensures, packet-length (drop a.at ws), length-drop a.at ws)
+
+pub offset_bounds-words-at : goal.offset_bounds-words-at
+offset_bounds-words-at c =
+    let a = c.args in
+    let ws = a.words.now in
+    let e = eqb-true (refusal_of (drop a.at ws)) goes_on (sym c.is_asked.ensures ∙ c.if-is_asked.true) in
+    omega (arith, (whole-at ws a.at (piece-some (drop a.at ws) e)).inside)
+
+pub bounds-words-at : goal.bounds-words-at
+bounds-words-at c =
+    let a = c.args in
+    let ws = a.words.now in
+    let e = eqb-true (refusal_of (drop a.at ws)) goes_on (sym c.is_asked.ensures ∙ c.if-is_asked.true) in
+    omega (arith, (whole-at ws a.at (piece-some (drop a.at ws) e)).inside)
+
+pub take-answer-requires : goal.take-answer-requires
+take-answer-requires c =
+    let a = c.args in
+    let ws = a.words.now in
+    let e = eqb-true (refusal_of (drop a.at ws)) goes_on (sym c.is_asked.ensures ∙ c.if-is_asked.true) in
+    (rw c.slot_of-k.ensures (slot-low _), standing ws a.at e)
+
+pub after-new-requires : goal.after-new-requires
+after-new-requires c =
+    let a = c.args in
+    let ws = a.words.now in
+    let e = eqb-true (refusal_of (drop a.at ws)) goes_on (sym c.is_asked.ensures ∙ c.if-is_asked.true) in
+    fits-left a.c a.buffer.now ws a.at e _ c.take-answer.ensures.answer _ c.head_of.ensures (omega arith)
+
+pub named-requires : goal.named-requires
+named-requires c =
+    (rw c.slot_of-k.ensures (slot-low _), omega arith)
+
+pub returns-then-is_asked-clause-turned : goal.returns-then-is_asked-clause-turned
+returns-then-is_asked-clause-turned c =
+    let a = c.args in
+    let ws = a.words.now in
+    let b = a.buffer.now in
+    let e = eqb-true (refusal_of (drop a.at ws)) goes_on (sym c.is_asked.ensures ∙ c.if-is_asked.true) in
+    let t = c.take-answer in
+    let k = c.slot_of-k.ensures in
+    let m = t.ensures.buffer ∙ buffer-asked a.c b ws a.at _ e k in
+    let l = ap length m ∙ buffer-length a.c b (drop a.at ws) in
+    let g = c.head_of.ensures in
+    let n = c.whole_size-n.ensures in
+    let r = c.named.ensures
+    ∙ ap (λ (x : ℕ). named_by t.result (a.at + c.whole_size-n.result) c.slot_of-k.result (x / 32) c.after-new.result) l
+    ∙ ap (further a.at) (report-asked a.c b ws a.at e _ t.ensures.answer _ g _ c.after-new.ensures _ _ n k) in
+    turned-asked a.c b ws a.at _
+    (c.onward.ensures ∙ progress-asked a.c a.at (length ws) _ (drop a.at ws) e _ r) _ e
+    (chain-asked a.c b ws a.at e _ t.ensures.answer _ g _ c.after-new.ensures)
+
+pub returns-then-is_asked-clause-buffer : goal.returns-then-is_asked-clause-buffer
+returns-then-is_asked-clause-buffer c =
+    let a = c.args in
+    let ws = a.words.now in
+    let e = eqb-true (refusal_of (drop a.at ws)) goes_on (sym c.is_asked.ensures ∙ c.if-is_asked.true) in
+    c.take-answer.ensures.buffer ∙ buffer-asked a.c a.buffer.now ws a.at _ e c.slot_of-k.ensures
+
+pub returns-clause-turned : goal.returns-clause-turned
+returns-clause-turned c =
+    let a = c.args in
+    let ws = a.words.now in
+    let e = eqb-false (refusal_of (drop a.at ws)) goes_on (sym c.is_asked.ensures ∙ c.if-is_asked.false) in
+    let n = c.whole_size-n.ensures in
+    let some : length (packet (drop a.at ws)) ≡ 0 → ⊥ = λ z. c.if-n-eq0.false (n ∙ z) in
+    turned-aside a.c a.buffer.now ws a.at _
+    (c.going_on.ensures ∙ rw n (progress-other a.c a.at _ _ (drop a.at ws) some e)) e
+
+pub returns-clause-buffer : goal.returns-clause-buffer
+returns-clause-buffer c =
+    let a = c.args in
+    let ws = a.words.now in
+    let e = eqb-false (refusal_of (drop a.at ws)) goes_on (sym c.is_asked.ensures ∙ c.if-is_asked.false) in
+    sym (buffer-same a.c a.buffer.now (drop a.at ws) e)
