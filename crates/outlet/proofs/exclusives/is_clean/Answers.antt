@@ -1,7 +1,6 @@
 -- `outlet::exclusives::is_clean` meets its contract: the count, the status and the bytes of the count. Assumes nothing.
 use mathlib.Core.Path.{sym}
 use Rattle.outlet.proofs.ExclusiveLaws.{clean-few, clean-many}
-use borrow.Author.Rules.{rules}
 use Rattle.outlet.proofs.exclusives.is_clean.Goals as goal
 
 pub returns-then-n-le-SIX : goal.returns-then-n-le-SIX

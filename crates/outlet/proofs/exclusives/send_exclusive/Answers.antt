@@ -2,7 +2,6 @@
 use mathlib.Core.Path.{sym, ◌∙◌}
 use Rattle.outlet.proofs.ExclusiveLaws.{exclusive-few, exclusive-none, exclusive-some}
 use Rattle.outlet.proofs.RowLaws.{nothing}
-use borrow.Author.Rules.{rules}
 use Rattle.outlet.proofs.exclusives.send_exclusive.Goals as goal
 
 pub send_framed-requires : goal.send_framed-requires

@@ -3,7 +3,6 @@ use mathlib.Core.Path.{◌∙◌}
 use native.Mathlib.Omega.{arith}
 use Rattle.outlet.specs.Sending.{framed}
 use Rattle.outlet.proofs.RowLaws.{framed-length, framed-sets, stored, tight}
-use borrow.Author.Rules.{rules}
 use Rattle.outlet.proofs.exclusives.send_framed.Goals as goal
 
 pub returns-then-out-to : goal.returns-then-out-to

@@ -3,7 +3,6 @@
 use mathlib.Core.Path.{sym, ◌∙◌}
 use Rattle.outlet.proofs.MessageLaws.{system-alone, system-none, system-one, system-two}
 use Rattle.outlet.proofs.RowLaws.{nothing}
-use borrow.Author.Rules.{rules}
 use Rattle.outlet.proofs.messages.send_system.Goals as goal
 
 pub returns-then-is_alone : goal.returns-then-is_alone

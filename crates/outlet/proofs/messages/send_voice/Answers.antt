@@ -3,7 +3,6 @@
 use mathlib.Core.Path.{sym, ◌∙◌}
 use Rattle.outlet.proofs.MessageLaws.{voice-none, voice-one, voice-two}
 use Rattle.outlet.proofs.RowLaws.{nothing}
-use borrow.Author.Rules.{rules}
 use Rattle.outlet.proofs.messages.send_voice.Goals as goal
 
 pub returns-then-s : goal.returns-then-s

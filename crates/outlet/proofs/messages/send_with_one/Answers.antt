@@ -3,7 +3,6 @@ use Rattle.ground.proofs.Tests.{tests}
 use Rattle.cable.specs.State.{pick}
 use Rattle.outlet.specs.Sending.{with_one}
 use Rattle.outlet.proofs.RowLaws.{nothing}
-use borrow.Author.Rules.{rules}
 use Rattle.outlet.proofs.messages.send_with_one.Goals as goal
 
 pub returns-then-a-le-MOST : goal.returns-then-a-le-MOST

@@ -2,7 +2,6 @@
 use Rattle.cable.specs.State.{pick}
 use Rattle.outlet.specs.Sending.{with_two}
 use Rattle.outlet.proofs.RowLaws.{nothing}
-use borrow.Author.Rules.{rules}
 use Rattle.outlet.proofs.messages.send_with_two.Goals as goal
 
 pub returns-then-a-b : goal.returns-then-a-b

@@ -6,7 +6,6 @@ use Rattle.ump.proofs.PacketLaws.{packet-end, size-by}
 use Rattle.stream.specs.Call.{within}
 use Rattle.outlet.specs.Outlet.{step_out}
 use Rattle.outlet.proofs.StepLaws.{alone-cut, first-cut, first_one, first-other, first_two, third}
-use borrow.Author.Rules.{rules}
 use Rattle.outlet.proofs.packets.export_first.Goals as goal
 
 pub returns-then-words-eq0 : goal.returns-then-words-eq0

@@ -1,13 +1,10 @@
 -- `outlet::packets::export_next` meets its contract: each way out is one of the laws of a packet in a run. Assumes
 -- nothing.
 use mathlib.Core.Path.{sym, ◌∙◌}
-use native.Mathlib.Omega.{arith}
 use Rattle.stream.specs.Call.{within}
 use Rattle.outlet.specs.Outlet.{step_out}
-use Rattle.outlet.proofs.RowLaws.{inside}
 use Rattle.ump.proofs.PacketLaws.{size-by}
 use Rattle.outlet.proofs.StepLaws.{next-cut, next_one, next-other, next-two, third}
-use borrow.Author.Rules.{rules}
 use Rattle.outlet.proofs.packets.export_next.Goals as goal
 
 pub returns-then-t-eq-MIDI1_VOICE : goal.returns-then-t-eq-MIDI1_VOICE

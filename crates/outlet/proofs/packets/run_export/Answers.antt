@@ -2,15 +2,14 @@
 use mathlib.Core.Path.{refl}
 use borrow.Author.Tests.{le-ltb, lt-ltb}
 use Rattle.outlet.specs.Outlet.{run_out}
-use borrow.Author.Rules.{rules}
 use Rattle.outlet.proofs.packets.run_export.Goals as goal
 
 pub returns-then-group-gt15 : goal.returns-then-group-gt15
 unfolding run_out
 returns-then-group-gt15 c = rw (lt-ltb 15 _ c.if-group-gt15.true) record {
-      report = c.report.ensures;
-      output = refl;
-    }
+  report = c.report.ensures;
+  output = refl;
+}
 
 pub returns-else-group-gt15 : goal.returns-else-group-gt15
 unfolding run_out

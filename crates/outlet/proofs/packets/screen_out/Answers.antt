@@ -2,7 +2,6 @@
 use mathlib.Core.Path.{sym, ap, ◌∙◌}
 use Rattle.screen.specs.Screen.{answering}
 use Rattle.outlet.proofs.CallLaws.{screened-none, screened-other, screened-ours}
-use borrow.Author.Rules.{rules}
 use Rattle.outlet.proofs.packets.screen_out.Goals as goal
 
 pub returns-then-packet-eq0 : goal.returns-then-packet-eq0
