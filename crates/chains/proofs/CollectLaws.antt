@@ -1,12 +1,11 @@
 -- Parts of the buffer, and a call by its refusal: with one chain, and with a list of 32. Assumes nothing.
-use Prim.Native.Nat.{ℕ, ◌+◌, ◌*◌, ◌/◌, ◌-◌, ◌≤◌, ◌<◌}
-use mathlib.Core.Path.{◌≡◌, ap, ◌∙◌}
-use mathlib.Core.List.{List, ◌++◌}
+use Prim.Native.Nat.{ℕ, ◌+◌, ◌*◌, ◌/◌, ◌≤◌, ◌<◌}
+use mathlib.Core.Path.{◌≡◌, ◌∙◌}
+use mathlib.Core.List.{List}
 use native.Mathlib.Omega.{arith}
 use native.Mathlib.Nat.{add-mul, div-mul-le_self, mul-le-mul_right}
-use lib.ListN.{length, take, drop, length-drop, length-take}
+use lib.ListN.{length, drop, length-drop, length-take}
 use borrow.Author.Tests.{eq-eqb, ne_eqb}
-use borrow.Rule.Slice.PartMut.{mid_of, Post-is, put_mid}
 use lib.Seq.{set-get_or}
 use Rattle.chains.specs.declared.Chain.{Chain}
 use Rattle.ump.specs.Packet.{packet}
@@ -22,20 +21,6 @@ pub part_end : (k n : ℕ) → k < 32 → k * (n / 32) + n / 32 ≤ n
 part_end k n h =
     let m : (k + 1) * (n / 32) ≤ 32 * (n / 32) = mul-le-mul_right (n / 32) (omega arith) in
     omega (arith, add-mul k 1 (n / 32), div-mul-le_self n 32)
-
-pub start_fits : (k n m : ℕ) → k < 32 → n * 32 ≤ m → k * n ≤ m
-start_fits k n m h e =
-    let p : k * n ≤ 32 * n = mul-le-mul_right n (omega arith) in
-    omega arith
-
--- a part lent from a start to an end, by those two: it is the part, and what comes back stands in its place
-pub mid-part : (k : ℕ) (b : List ℕ) → mid_of (k * share b) (k * share b + share b - k * share b) b ≡ part_at k b
-mid-part k b =
-    ap (λ (n : ℕ). take n (drop (k * share b) b)) {x = k * share b + share b - k * share b} {y = share b} (omega arith)
-
-pub put-part : (k : ℕ) (b p : List ℕ) → put_mid (k * share b) (k * share b + share b - k * share b) b p ≡ with_part k p b
-put-part k b p = ap (λ (z : List ℕ). take (k * share b) b ++ (p ++ z)) (Post-is (k * share b)
-    (k * share b + share b) b (omega arith))
 
 pub part_length : (k : ℕ) (b : List ℕ) → k < 32 → length (part_at k b) ≡ share b
 part_length k b h =
