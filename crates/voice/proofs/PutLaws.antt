@@ -8,7 +8,6 @@ use borrow.Author.Tests.{le-leb, lt-leb}
 use lib.Dec.{leb, leb-zero}
 use lib.ListN.{length, length-take}
 use lib.Seq.{sets, sets-eq}
-use Rattle.ground.specs.Store.{written}
 use Rattle.ground.proofs.StoreLaws.{written_none}
 use Rattle.lower.specs.declared.UpToFourWords.{UpToFourWords}
 use Rattle.voice.specs.Output.{sent_words}
@@ -37,10 +36,6 @@ module _ (s : UpToFourWords) (to : ℕ) (out : List ℕ) (few : s.count ≤ 4) w
 
   pub put_all : (ws : List ℕ) → sent_words s ≡ ws → 0 < length ws → length ws ≤ length out - to → Put true (sets out to ws)
   put_all ws e i h = rw (e, le-leb (length ws) (length out - to) h) (refl, sets-eq ws out to (omega arith))
-
--- a number of words that is none of 0, 1, 2 and 3, and at most 4
-pub four : (n : ℕ) → n ≤ 4 → (n ≡ 0 → ⊥) → (n ≡ 1 → ⊥) → (n ≡ 2 → ⊥) → (n ≡ 3 → ⊥) → n ≡ 4
-four n h a b c d = omega arith
 
 module _ (d : Done) (n : ℕ) (out : List ℕ) (s : UpToFourWords) where
   pub room-report : s.count ≤ 4 → leb (length (sent_words s)) (length out - d.written) ≡ true

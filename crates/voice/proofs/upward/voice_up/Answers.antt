@@ -1,0 +1,37 @@
+-- `voice::upward::voice_up` meets its contract: what the screening finds of its one word refuses it, or else whether
+-- its
+-- record is sound decides between the message and a stop. Assumes nothing.
+use mathlib.Core.Path.{sym, ◌∙◌}
+use mathlib.Core.Bool.{◌||◌}
+use Rattle.channel.specs.Record.{sound}
+use Rattle.voice.proofs.TurnLaws.{check-refused, may-not-speak, may-speak}
+use Rattle.voice.proofs.upward.voice_up.Goals as goal
+
+pub returns-then-is_found_sound : goal.returns-then-is_found_sound
+returns-then-is_found_sound c =
+    let a = c.args in
+    let x = c.screen_voice1-screened in
+    let k = c.is_found_sound in
+    rw (may-speak a.rule (a.known || sound a.«record») a.past a.w a.«record» a.out.now x.result
+    c.requires.1 x.ensures c.if-screened-eq-GOES_ON.true
+    (sym k.ensures ∙ c.if-is_found_sound.true)) c.speak.ensures
+
+pub returns-else-is_found_sound : goal.returns-else-is_found_sound
+returns-else-is_found_sound c =
+    let a = c.args in
+    let x = c.screen_voice1-screened in
+    let k = c.is_found_sound in
+    rw (c.stays.ensures, c.report.ensures)
+    (let z = may-not-speak a.rule (a.known || sound a.«record») a.past a.w a.«record» a.out.now x.result
+    c.requires.1 x.ensures c.if-screened-eq-GOES_ON.true
+    (sym k.ensures ∙ c.if-is_found_sound.false) in
+    record { turn = z.0; output = z.1 })
+
+pub returns-else-screened-eq-GOES_ON : goal.returns-else-screened-eq-GOES_ON
+returns-else-screened-eq-GOES_ON c =
+    let a = c.args in
+    let x = c.screen_voice1-screened in
+    rw (c.stays-else-screened-eq-GOES_ON.ensures, c.refuse.ensures)
+    (let z = check-refused a.rule (a.known || sound a.«record») a.past a.w a.«record» a.out.now x.result
+    c.requires.1 x.ensures c.if-screened-eq-GOES_ON.false in
+    record { turn = z.0; output = z.1 })
