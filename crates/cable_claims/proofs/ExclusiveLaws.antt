@@ -42,7 +42,8 @@ small-both [] ys h k = k
 small-both (x ∷ xs) ys h k = (h.0, small-both xs ys h.1 k)
 
 -- one more byte held
-pushed-held : (begun d : ℕ) (hs : List ℕ) → length hs < 6 → pushed d (exclusive begun hs) ≡ exclusive begun (hs ++ (d ∷ []))
+pushed-held : (begun d : ℕ) (hs : List ℕ) → length hs < 6
+    → pushed d (exclusive begun hs) ≡ exclusive begun (hs ++ (d ∷ []))
 pushed-held t z [] l = refl
 pushed-held t z (a ∷ []) l = refl
 pushed-held t z (a ∷ b ∷ []) l = refl
@@ -146,7 +147,8 @@ module _ (g form begun : ℕ) (hs : List ℕ) (few : g ≤ 15) (hf : form ≤ 3)
 
 -- the calls of an open exclusive
 module _ (g begun : ℕ) (hs : List ℕ) where
-  more-in : (d : ℕ) → d ≤ 127 → length hs < 6 → byte_in (exclusive begun hs) g d ≡ takes (exclusive begun (hs ++ (d ∷ [])))
+  more-in : (d : ℕ) → d ≤ 127 → length hs < 6
+      → byte_in (exclusive begun hs) g d ≡ takes (exclusive begun (hs ++ (d ∷ [])))
   unfolding byte_in data_in exclusive_in pick
   more-in d k m =
       rw (lt-leb 0xF8 d (omega arith), lt-ltb d 0x80 (omega arith), lt-ltb (length hs) 6 m, pushed-held begun d hs m)
@@ -182,7 +184,8 @@ part-whole g form (w ∷ s) a = rw a.kind a.two
 cut-part : (g form : ℕ) (p ws : List ℕ) → Part g form p → cut (p ++ ws) ≡ p ∷ cut ws
 cut-part g form p ws a = cut-whole p ws (part-whole g form p a)
 
-whole-more : (g begun : ℕ) (p : List ℕ) (ps : List (List ℕ)) → Part g (more_form begun) p → Whole g 1 ps → Whole g begun (p ∷ ps)
+whole-more : (g begun : ℕ) (p : List ℕ) (ps : List (List ℕ)) → Part g (more_form begun) p → Whole g 1 ps
+    → Whole g begun (p ∷ ps)
 unfolding Whole
 whole-more g begun p [] a b = absurd b
 whole-more g begun p (q ∷ ps) a b = (a, b)
@@ -288,7 +291,8 @@ module _ (g form : ℕ) (p : List ℕ) (few : g ≤ 15) (hf : form ≤ 3) (a : P
   unfolding screen_out good_status checked_fields
   passes = rw (a.two, a.kind, a.group, eq-eqb g g refl, a.shape, le-leb form 3 hf, good-fields)
 
-  bytes-part : bytes_of w v ≡ pick (leb form 1) (0xF0 ∷ []) [] ++ payload w v ++ pick (eqb form 0 || eqb form 3) (0xF7 ∷ []) []
+  bytes-part : bytes_of w v
+      ≡ pick (leb form 1) (0xF0 ∷ []) [] ++ payload w v ++ pick (eqb form 0 || eqb form 3) (0xF7 ∷ []) []
   unfolding bytes_of
   bytes-part = rw (a.kind, a.shape)
 
@@ -306,7 +310,8 @@ bytes-more : (g begun : ℕ) (p : List ℕ) → g ≤ 15 → begun ≤ 1 → Par
     → bytes_of (first p) (second p) ≡ lead begun ++ payload (first p) (second p)
 unfolding pick
 bytes-more g zero p few h a = bytes-part g 1 p few (omega arith) a ∙ rw (append-nil (payload (first p) (second p)))
-bytes-more g (suc zero) p few h a = bytes-part g 2 p few (omega arith) a ∙ rw (append-nil (payload (first p) (second p)))
+bytes-more g (suc zero) p few h a = bytes-part g 2 p few (omega arith) a
+    ∙ rw (append-nil (payload (first p) (second p)))
 bytes-more g (suc (suc n)) p few h a = absurd (omega arith)
 
 -- a whole exclusive goes out as F0, its payloads and F7
@@ -324,7 +329,8 @@ gone g begun (p ∷ []) few hb a =
     let f = last-form (eqb begun 0) in
     record {
       bytes = gives g p [] (part-whole g (last_form begun) p a) (passes g (last_form begun) p few f a)
-          ∙ rw (gives_none g, bytes-last g begun p few hb a, append-nil (payload (first p) (second p)), append-nil p, add-zero (length p))
+          ∙ rw (gives_none g, bytes-last g begun p few hb a, append-nil (payload (first p) (second p)), append-nil p,
+              add-zero (length p))
           (simp (append-nil, append_assoc));
       small = rw (append-nil (payload (first p) (second p))) a.small;
       most = rw (append-nil (payload (first p) (second p))) (payload-most g (last_form begun) p few f a);
@@ -335,7 +341,8 @@ gone g begun (p ∷ q ∷ ps) few hb a =
     let r = gone g 1 (q ∷ ps) few (omega arith) a.1 in
     let x = payload (first p) (second p) in
     record {
-      bytes = gives g p (joined (q ∷ ps)) (part-whole g (more_form begun) p a.0) (passes g (more_form begun) p few f a.0)
+      bytes = gives g p (joined (q ∷ ps)) (part-whole g (more_form begun) p a.0)
+          (passes g (more_form begun) p few f a.0)
           ∙ rw (r.bytes, bytes-more g begun p few hb a.0, length-append p (joined (q ∷ ps)))
           (simp (pick-false, append_assoc));
       small = small-both x (payloads (q ∷ ps)) a.0.small r.small;

@@ -11,7 +11,8 @@ use borrow.Author.Tests.{eq-eqb, le-leb}
 use Rattle.stream.specs.Answers.{sent, taken_in}
 use Rattle.cable.specs.declared.Cable.{Cable}
 use Rattle.cable.specs.State.{pick, sound}
-use Rattle.cable.specs.Hearing.{Call, byte_in, data_in, end_in, exclusive_in, first_in, message_in, real_time_in, serving}
+use Rattle.cable.specs.Hearing.{Call, byte_in, data_in, end_in, exclusive_in, first_in, message_in, real_time_in}
+use Rattle.cable.specs.Hearing.{serving}
 use Rattle.cable.specs.Hearing.{status_in}
 use Rattle.cable.proofs.Ways.{Next, either, next-in, told}
 use Rattle.inlet.specs.Inlet.{Made, before_rest, calls_in, made, nothing_done, ran_in, run_in}
@@ -118,7 +119,7 @@ calls-room g (b ∷ bs) s = go (byte_in s g b).read refl (next-in s g b) (λ u. 
         let k = x.next e in
         let l = length-append (byte_in s g b).sends ((byte_in u g b).sends ++ (whole_in g v bs).sends) in
         let m = length-append (byte_in u g b).sends (whole_in g v bs).sends in
-        rw (e, k) (omega (arith, (light s g b).most, (light u g b).most, ih v, e, k, l, m))
+        rw e (omega (arith, (light s g b).most, (light u g b).most, ih v, e, k, l, m))
     go (suc zero) e x ih =
         let u = (byte_in s g b).after in
         let l = length-append (byte_in s g b).sends (whole_in g u bs).sends in

@@ -6,7 +6,8 @@ use mathlib.Core.List.{List, [], ◌∷◌}
 use native.Mathlib.Omega.{arith}
 use lib.Dec.{eqb, leb, ltb, leb-zero}
 use lib.ListN.{length}
-use borrow.Author.Tests.{eq-eqb, eqb-false, eqb-true, le-leb, le-ltb, leb-false, leb-true, lt-leb, lt-ltb, ltb-false, ltb-true, ne_eqb}
+use borrow.Author.Tests.{eq-eqb, eqb-false, eqb-true, le-leb, le-ltb, leb-false, leb-true, lt-leb, lt-ltb, ltb-false}
+use borrow.Author.Tests.{ltb-true, ne_eqb}
 use Rattle.ground.proofs.Bools.{bools}
 use Rattle.ground.proofs.Cases.{by_bool, not-both}
 use Rattle.ump.specs.Word.{message_type}
@@ -51,7 +52,8 @@ module _ (s : Cable) (g b : ℕ) where
       let y = ne_eqb b 0xFD (λ q. omega arith) in
       told (ByCase s b) _
       (λ e.
-      either (ByCase s b) _ (record { says = simp (bools, e, t, u, x, y) }) (record { says = simp (bools, e, t, u, x, y) }))
+      either (ByCase s b) _ (record { says = simp (bools, e, t, u, x, y) })
+          (record { says = simp (bools, e, t, u, x, y) }))
       (λ e.
       told (ByCase s b) _ (λ z. record { says = simp (bools, e, t, u, x, y, z) })
       (λ z.

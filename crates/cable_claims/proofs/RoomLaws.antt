@@ -19,7 +19,8 @@ use Rattle.cable_claims.proofs.InRuns.{run-whole, weight, weight-most, whole-ans
 answered : (r q : Ran Cable) → r ≡ q → r.answer ≡ no_room → q.answer ≡ no_room
 answered r q e h = ap (λ (x : Ran Cable). x.answer) (sym e) ∙ h
 
-enough : (g room : ℕ) (s : Cable) (bs : List ℕ) → 2 * length bs + weight s ≤ room → (run_in g room s bs).answer ≡ no_room → ⊥
+enough : (g room : ℕ) (s : Cable) (bs : List ℕ) → 2 * length bs + weight s ≤ room
+    → (run_in g room s bs).answer ≡ no_room → ⊥
 enough g room s bs h e =
     by_bool (ltb 15 g)
     (λ t. omega (arith, answered _ _ (run-range g room s bs (ltb-true 15 g t)) e))

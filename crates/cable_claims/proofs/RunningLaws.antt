@@ -14,7 +14,8 @@ use Rattle.ground.proofs.Cases.{by_bool}
 use Rattle.stream.specs.Answers.{cut_off, dropped}
 use Rattle.cable.specs.declared.Cable.{Cable}
 use Rattle.cable.specs.State.{exclusive, holding, idle, message_word, need, packet_of, pick, voice_byte}
-use Rattle.cable.specs.Hearing.{Call, byte_in, data_in, drops, end_in, exclusive_in, first_in, last_form, message_in, real_time_in}
+use Rattle.cable.specs.Hearing.{Call, byte_in, data_in, drops, end_in, exclusive_in, first_in, last_form, message_in}
+use Rattle.cable.specs.Hearing.{real_time_in}
 use Rattle.cable.specs.Hearing.{runs_on, sending, serving, short_in, status_in, takes, unread}
 use Rattle.cable.proofs.Ways.{either, told}
 use Rattle.inlet.specs.Inlet.{calls_in}
@@ -112,7 +113,8 @@ module _ (g b : ℕ) (bs : List ℕ) (l : Later g bs) where
         (λ e. begun (takes (exclusive 0 [])) low hi (rw e) refl _
         (l.other (exclusive 0 []) (record { running = refl; status = inr (omega arith) })))
         (λ e. by_bool (eqb b 0xF6)
-        (λ f. begun (sending (message_word g b 0 0 ∷ []) (idle 0)) low hi (rw (e, f)) refl _ (l.other (idle 0) other-idle))
+        (λ f. begun (sending (message_word g b 0 0 ∷ []) (idle 0)) low hi (rw (e, f)) refl _
+            (l.other (idle 0) other-idle))
         (λ f. by_bool (leb 0xF4 b)
         (λ h. begun (drops (idle 0)) low hi (rw (e, f, h)) refl _ (l.other (idle 0) other-idle))
         (λ h. begun (takes (holding 0 b 0 [])) low hi (rw (e, f, h)) refl _
@@ -238,11 +240,13 @@ module _ (g b : ℕ) (bs : List ℕ) (l : Later g bs) where
         ⊎_elim
         (λ n.
         rw n
-        (alike-step g _ _ b bs _ _ _ (running-in ∙ only-in g r lo hi r b small n) (only-in g r lo hi 0 b small n) refl refl refl
+        (alike-step g _ _ b bs _ _ _ (running-in ∙ only-in g r lo hi r b small n)
+            (only-in g r lo hi 0 b small n) refl refl refl
         (l.between r v)))
         (λ n.
         rw n
-        (alike-step g _ _ b bs _ _ _ (running-in ∙ first-in g r lo hi r b small n) (first-in g r lo hi 0 b small n) refl refl
+        (alike-step g _ _ b bs _ _ _ (running-in ∙ first-in g r lo hi r b small n)
+            (first-in g r lo hi 0 b small n) refl refl
         refl (l.waiting r r 0 b v small)))
         (need-ways g r lo hi)
 
@@ -256,7 +260,8 @@ unfolding calls_in noted all_in
 alike-none g s t = record { notes = refl; words = refl }
 
 -- a byte is of real time, a system status, a voice status, or data
-classes : {X : Type 0} (b : ℕ) → (leb 0xF8 b ≡ true → X) → (0xF0 ≤ b → b < 0xF8 → X) → (Voice b → X) → (b < 0x80 → X) → X
+classes : {X : Type 0} (b : ℕ) → (leb 0xF8 b ≡ true → X) → (0xF0 ≤ b → b < 0xF8 → X) → (Voice b → X) → (b < 0x80 → X)
+    → X
 classes b real system voice plain =
     by_bool (leb 0xF8 b) real
     (λ f. by_bool (leb 0xF0 b) (λ e. system (leb-true 0xF0 b e) (leb-false 0xF8 b f))

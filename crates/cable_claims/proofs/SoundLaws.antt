@@ -16,7 +16,8 @@ use Rattle.stream.specs.Run.{Ran}
 use Rattle.cable.specs.declared.Cable.{Cable}
 use Rattle.cable.specs.State.{exclusive, holding, idle, need, pushed, slot, slot_at, sound, sound_held, sound_open}
 use Rattle.cable.specs.State.{sound_running, voice_byte}
-use Rattle.cable.specs.Hearing.{Call, byte_in, data_in, end_in, exclusive_in, first_in, message_in, real_time_in, runs_on, serving}
+use Rattle.cable.specs.Hearing.{Call, byte_in, data_in, end_in, exclusive_in, first_in, message_in, real_time_in}
+use Rattle.cable.specs.Hearing.{runs_on, serving}
 use Rattle.cable.specs.Hearing.{status_in}
 use Rattle.cable.proofs.Ways.{either, told}
 use Rattle.inlet.specs.Inlet.{Made, call_in, calls_in, fit_in, made, next_in, one_in, ran_in, run_in}
@@ -166,7 +167,8 @@ set-small [] n b h = omega arith
 set-small (x ∷ l) zero b h = h
 set-small (x ∷ l) (suc n) b h = set-small l n b h
 
-slot-more : (l : List ℕ) (n b k : ℕ) → b ≤ 127 → slot n k (get_or l k 0) ≡ true → slot (n + 1) k (get_or (set l n b) k 0) ≡ true
+slot-more : (l : List ℕ) (n b k : ℕ) → b ≤ 127 → slot n k (get_or l k 0) ≡ true
+    → slot (n + 1) k (get_or (set l n b) k 0) ≡ true
 slot-more l n b k h e =
     by_bool (eqb n k)
     (λ q.
