@@ -1,0 +1,36 @@
+-- `tally::tally_of` meets its contract, by the laws of one more sort that is counted.
+use Rattle.std.proofs.Common.{get_or, arith}
+use Rattle.ump.proofs.PacketLaws.{size-range}
+use Rattle.tally.proofs.TallyLaws.{counts_end, counts-more, counts_start}
+use Rattle.tally.proofs.tally_of.Goals as goal
+
+pub loop-at-init : goal.loop-at-init
+loop-at-init c = counts_start _ _
+
+pub overflow_add-at : goal.overflow_add-at
+overflow_add-at c =
+    omega (
+      arith,
+      c.loop-at-test.true,
+      c.size-at.ensures,
+      size-range (get_or c.args.words.now c.loop-at.at 0),
+    )
+
+pub loop-at-smaller : goal.loop-at-smaller
+loop-at-smaller c =
+    omega (
+      arith,
+      c.size-at.ensures,
+      size-range (get_or c.args.words.now c.loop-at.at 0),
+      c.loop-at-test.true,
+    )
+
+pub loop-at-preserved : goal.loop-at-preserved
+loop-at-preserved c =
+    let a = c.args in
+    let l = c.loop-at in
+    rw (c.size-at.ensures, c.one_more-more.ensures)
+    (counts-more a.way a.words.now l.counts l.at l.invariant c.loop-at-test.true (omega arith) _ c.sort_at.ensures)
+
+pub returns : goal.returns
+returns c = let l = c.loop-at in counts_end _ _ l.counts l.at l.invariant c.loop-at-test.false

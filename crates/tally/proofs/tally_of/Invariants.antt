@@ -1,0 +1,11 @@
+-- The loop of `tally::tally_of`: the sorts before a place are counted, and those from there on are left. The measure is
+-- the words left.
+use Rattle.std.proofs.Common.{◌-◌, length}
+use Rattle.tally.proofs.TallyLaws.{Counts}
+use Rattle.tally.proofs.tally_of.Given as goal
+
+abbrev pub invariant-loop-at : goal.invariant-loop-at
+invariant-loop-at l = Counts l.way l.words l.counts l.at
+
+abbrev pub decreases-loop-at : goal.decreases-loop-at
+decreases-loop-at l = length l.words - l.at
