@@ -329,8 +329,13 @@ gone g begun (p ∷ []) few hb a =
     let f = last-form (eqb begun 0) in
     record {
       bytes = gives g p [] (part-whole g (last_form begun) p a) (passes g (last_form begun) p few f a)
-          ∙ rw (gives_none g, bytes-last g begun p few hb a, append-nil (payload (first p) (second p)), append-nil p,
-              add-zero (length p))
+          ∙ rw (
+            gives_none g,
+            bytes-last g begun p few hb a,
+            append-nil (payload (first p) (second p)),
+            append-nil p,
+            add-zero (length p),
+          )
           (simp (append-nil, append_assoc));
       small = rw (append-nil (payload (first p) (second p))) a.small;
       most = rw (append-nil (payload (first p) (second p))) (payload-most g (last_form begun) p few f a);

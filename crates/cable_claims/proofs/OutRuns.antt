@@ -1,5 +1,5 @@
 -- A run out with room enough: a packet that passes gives its bytes, and then the rest. Assumes nothing.
-use Prim.Native.Nat.{ℕ, ◌+◌, ◌≤◌}
+use Prim.Native.Nat.{ℕ, ◌≤◌}
 use mathlib.Core.Path.{◌≡◌, refl}
 use mathlib.Core.List.{List, [], ◌++◌}
 use lib.ListN.{length}

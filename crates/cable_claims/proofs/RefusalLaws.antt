@@ -1,7 +1,7 @@
 -- Each answer in its case: the ways of a call, and the row of cases, by the same tests. Assumes nothing.
 use Prim.Native.Nat.{ℕ, suc, ◌≤◌, ◌<◌}
 use mathlib.Core.Path.{◌≡◌, refl, sym, ◌∙◌}
-use mathlib.Core.Bool.{true, false, cond, not, ◌||◌}
+use mathlib.Core.Bool.{true, false, cond, ◌||◌}
 use mathlib.Core.List.{List, [], ◌∷◌}
 use native.Mathlib.Omega.{arith}
 use lib.Dec.{eqb, leb, ltb, leb-zero}
@@ -53,7 +53,7 @@ module _ (s : Cable) (g b : ℕ) where
       told (ByCase s b) _
       (λ e.
       either (ByCase s b) _ (record { says = simp (bools, e, t, u, x, y) })
-          (record { says = simp (bools, e, t, u, x, y) }))
+      (record { says = simp (bools, e, t, u, x, y) }))
       (λ e.
       told (ByCase s b) _ (λ z. record { says = simp (bools, e, t, u, x, y, z) })
       (λ z.

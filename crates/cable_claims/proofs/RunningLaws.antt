@@ -114,7 +114,7 @@ module _ (g b : ℕ) (bs : List ℕ) (l : Later g bs) where
         (l.other (exclusive 0 []) (record { running = refl; status = inr (omega arith) })))
         (λ e. by_bool (eqb b 0xF6)
         (λ f. begun (sending (message_word g b 0 0 ∷ []) (idle 0)) low hi (rw (e, f)) refl _
-            (l.other (idle 0) other-idle))
+        (l.other (idle 0) other-idle))
         (λ f. by_bool (leb 0xF4 b)
         (λ h. begun (drops (idle 0)) low hi (rw (e, f, h)) refl _ (l.other (idle 0) other-idle))
         (λ h. begun (takes (holding 0 b 0 [])) low hi (rw (e, f, h)) refl _
@@ -241,12 +241,12 @@ module _ (g b : ℕ) (bs : List ℕ) (l : Later g bs) where
         (λ n.
         rw n
         (alike-step g _ _ b bs _ _ _ (running-in ∙ only-in g r lo hi r b small n)
-            (only-in g r lo hi 0 b small n) refl refl refl
+        (only-in g r lo hi 0 b small n) refl refl refl
         (l.between r v)))
         (λ n.
         rw n
         (alike-step g _ _ b bs _ _ _ (running-in ∙ first-in g r lo hi r b small n)
-            (first-in g r lo hi 0 b small n) refl refl
+        (first-in g r lo hi 0 b small n) refl refl
         refl (l.waiting r r 0 b v small)))
         (need-ways g r lo hi)
 

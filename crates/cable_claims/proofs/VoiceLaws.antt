@@ -117,7 +117,7 @@ module _ (g w : ℕ) (few : g ≤ 15) (v : Voice g w) where
   bytes_most : length (bytes_of w 0) ≤ 3
   bytes_most =
       ⊎_elim (λ n. rw (bytes_one n) (omega arith)) (λ n. rw (bytes-two n) (omega arith))
-          (need-ways g (byte2 w) low high)
+      (need-ways g (byte2 w) low high)
 
   -- the bytes come back as the word
   module _ (r : ℕ) (bs ws : List ℕ) (t : Returned g (idle (byte2 w)) bs ws) where
@@ -178,9 +178,12 @@ module _ (g room : ℕ) (ws : List ℕ) (few : g ≤ 15) (a : All (Voice g) ws) 
   unfolding sound
   imported space k =
       let t = back g few ws a 0 in
-      let e = run-whole g space (idle 0) (spoken ws) few refl (rw t.sends (omega (arith, cleaned-length ws))) in
-      (rw e (whole-answer (calls_in g (idle 0) (spoken ws)) (idle 0)), rw e (whole-read g (spoken ws) (idle 0)),
-          rw e t.sends, t.fine)
+      let e = run-whole g space (idle 0) (spoken ws) few refl (rw t.sends (omega (arith, cleaned-length ws))) in (
+        rw e (whole-answer (calls_in g (idle 0) (spoken ws)) (idle 0)),
+        rw e (whole-read g (spoken ws) (idle 0)),
+        rw e t.sends,
+        t.fine,
+      )
 
 pub proved-voice : VoiceReturns
 proved-voice =
