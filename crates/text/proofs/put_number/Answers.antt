@@ -4,9 +4,11 @@ use Rattle.text.proofs.LineLaws.{number-length, number-stored}
 use Rattle.text.proofs.put_number.Goals as goal
 
 pub spell-requires : goal.spell-requires
-spell-requires c =
-    (omega arith, omega arith,
-        omega (arith, c.requires, c.places-digits.ensures.count, number-length c.args.end c.args.n))
+spell-requires c = (
+  omega arith,
+  omega arith,
+  omega (arith, c.requires, c.places-digits.ensures.count, number-length c.args.end c.args.n),
+)
 
 pub bounds-out-to : goal.bounds-out-to
 bounds-out-to c =

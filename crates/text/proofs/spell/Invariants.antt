@@ -11,7 +11,7 @@ abbrev pub invariant-loop-i : goal.invariant-loop-i
 invariant-loop-i l =
     (l.i ≤ l.count) × (length l.out ≡ length l.initial.out)
     × (l.rest ≡ l.n / l.base ^ (l.count - l.i)) × (l.out ≡ sets l.initial.out (l.to + l.i)
-        (digits l.base (l.count - l.i) l.n))
+    (digits l.base (l.count - l.i) l.n))
 
 abbrev pub decreases-loop-i : goal.decreases-loop-i
 decreases-loop-i l = l.i

@@ -7,7 +7,7 @@ use Rattle.wire.proofs.carry.Given as goal
 abbrev pub invariant-loop-i : goal.invariant-loop-i
 invariant-loop-i l =
     (l.i ≤ l.n) × (length l.bytes ≡ length l.fn.bytes) × (l.bytes
-        ≡ sets l.fn.bytes 0 (take l.i (slice l.from l.end l.fn.bytes)))
+    ≡ sets l.fn.bytes 0 (take l.i (slice l.from l.end l.fn.bytes)))
 
 abbrev pub decreases-loop-i : goal.decreases-loop-i
 decreases-loop-i l = l.n - l.i

@@ -34,12 +34,12 @@ returns-in-None c =
 pub returns-then-is_room : goal.returns-then-is_room
 returns-then-is_room c =
     let its : let a = c.args in channel_line a.group a.channel a.keys
-        ≡ lamps_line a.group a.channel a.keys (c.in-Key.key) =
+    ≡ lamps_line a.group a.channel a.keys (c.in-Key.key) =
     let a = c.args in
     let l = c.lowest-lowest in
     its-line a.group a.channel a.keys _ (c.in-Key.key) l.ensures c.in-Key.is in
     let fits : (t : Bool) → t ≡ leb (c.line_bytes-bytes.result + 9 * 0) (length c.args.out.now - c.args.to) → let a =
-        c.args in leb (length (channel_line a.group a.channel a.keys)) (length c.args.out.now - c.args.to) ≡ t =
+    c.args in leb (length (channel_line a.group a.channel a.keys)) (length c.args.out.now - c.args.to) ≡ t =
     λ t e. let a = c.args in
     let l = c.lowest-lowest in
     line-fits a.group a.channel a.keys _ _ _ (length c.args.out.now - c.args.to) t l.ensures c.in-Key.is
@@ -53,7 +53,7 @@ returns-then-is_room c =
 pub returns-else-is_room : goal.returns-else-is_room
 returns-else-is_room c =
     let fits : (t : Bool) → t ≡ leb (c.line_bytes-bytes.result + 9 * 0) (length c.args.out.now - c.args.to) → let a =
-        c.args in leb (length (channel_line a.group a.channel a.keys)) (length c.args.out.now - c.args.to) ≡ t =
+    c.args in leb (length (channel_line a.group a.channel a.keys)) (length c.args.out.now - c.args.to) ≡ t =
     λ t e. let a = c.args in
     let l = c.lowest-lowest in
     line-fits a.group a.channel a.keys _ _ _ (length c.args.out.now - c.args.to) t l.ensures c.in-Key.is

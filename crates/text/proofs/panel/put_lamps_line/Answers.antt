@@ -12,21 +12,21 @@ use Rattle.text.proofs.panel.put_lamps_line.Goals as goal
 pub put_number-third-requires : goal.put_number-third-requires
 put_number-third-requires c =
     let room : ((((c.args.to + length (number_field c.args.group)) + length (number_field c.args.channel))
-        + length (number_field (down_count c.args.keys))) + length (number_field c.args.lowest)) + 129
-            ≤ length c.args.out.now =
+    + length (number_field (down_count c.args.keys))) + length (number_field c.args.lowest)) + 129
+    ≤ length c.args.out.now =
     let a = c.args in omega (arith, c.requires, line-long a.group a.channel a.keys a.lowest) in
     omega (arith, room, c.put_number-second.auto.out, c.put_number-second.ensures.place)
 
 pub put_number-fourth-requires : goal.put_number-fourth-requires
 put_number-fourth-requires c =
     let room : ((((c.args.to + length (number_field c.args.group)) + length (number_field c.args.channel))
-        + length (number_field (down_count c.args.keys))) + length (number_field c.args.lowest)) + 129
-            ≤ length c.args.out.now =
+    + length (number_field (down_count c.args.keys))) + length (number_field c.args.lowest)) + 129
+    ≤ length c.args.out.now =
     let a = c.args in omega (arith, c.requires, line-long a.group a.channel a.keys a.lowest) in
     let long-two : length c.put_number-third.new.out ≡ length c.args.out.now =
     c.put_number-third.auto.out ∙ c.put_number-second.auto.out in
     let at_count : c.put_number-third.result
-        ≡ ((c.args.to + length (number_field c.args.group)) + length (number_field c.args.channel)) =
+    ≡ ((c.args.to + length (number_field c.args.group)) + length (number_field c.args.channel)) =
     omega (arith, c.put_number-third.ensures.place, c.put_number-second.ensures.place) in
     let count_long : length (number_field c.count-count.result) ≡ length (number_field (down_count c.args.keys)) =
     ap (λ (n : ℕ). length (number_field n)) c.count-count.ensures in
@@ -35,19 +35,19 @@ put_number-fourth-requires c =
 pub put_number-row-requires : goal.put_number-row-requires
 put_number-row-requires c =
     let room : ((((c.args.to + length (number_field c.args.group)) + length (number_field c.args.channel))
-        + length (number_field (down_count c.args.keys))) + length (number_field c.args.lowest)) + 129
-            ≤ length c.args.out.now =
+    + length (number_field (down_count c.args.keys))) + length (number_field c.args.lowest)) + 129
+    ≤ length c.args.out.now =
     let a = c.args in omega (arith, c.requires, line-long a.group a.channel a.keys a.lowest) in
     let long-two : length c.put_number-third.new.out ≡ length c.args.out.now =
     c.put_number-third.auto.out ∙ c.put_number-second.auto.out in
     let at_count : c.put_number-third.result
-        ≡ ((c.args.to + length (number_field c.args.group)) + length (number_field c.args.channel)) =
+    ≡ ((c.args.to + length (number_field c.args.group)) + length (number_field c.args.channel)) =
     omega (arith, c.put_number-third.ensures.place, c.put_number-second.ensures.place) in
     let count_long : length (number_field c.count-count.result) ≡ length (number_field (down_count c.args.keys)) =
     ap (λ (n : ℕ). length (number_field n)) c.count-count.ensures in
     let at-lowest : c.put_number-fourth.result
-        ≡ (((c.args.to + length (number_field c.args.group)) + length (number_field c.args.channel))
-            + length (number_field (down_count c.args.keys))) =
+    ≡ (((c.args.to + length (number_field c.args.group)) + length (number_field c.args.channel))
+    + length (number_field (down_count c.args.keys))) =
     omega (arith, c.put_number-fourth.ensures.place, count_long, at_count) in
     omega (arith, room, c.put_number-fourth.auto.out, long-two, at-lowest)
 
@@ -58,17 +58,17 @@ bounds-out-row c =
     let long-four : length c.put_number-row.new.out ≡ length c.args.out.now =
     c.put_number-row.auto.out ∙ c.put_number-fourth.auto.out ∙ long-two in
     let room : ((((c.args.to + length (number_field c.args.group)) + length (number_field c.args.channel))
-        + length (number_field (down_count c.args.keys))) + length (number_field c.args.lowest)) + 129
-            ≤ length c.args.out.now =
+    + length (number_field (down_count c.args.keys))) + length (number_field c.args.lowest)) + 129
+    ≤ length c.args.out.now =
     let a = c.args in omega (arith, c.requires, line-long a.group a.channel a.keys a.lowest) in
     let at_count : c.put_number-third.result
-        ≡ ((c.args.to + length (number_field c.args.group)) + length (number_field c.args.channel)) =
+    ≡ ((c.args.to + length (number_field c.args.group)) + length (number_field c.args.channel)) =
     omega (arith, c.put_number-third.ensures.place, c.put_number-second.ensures.place) in
     let count_long : length (number_field c.count-count.result) ≡ length (number_field (down_count c.args.keys)) =
     ap (λ (n : ℕ). length (number_field n)) c.count-count.ensures in
     let at-lowest : c.put_number-fourth.result
-        ≡ (((c.args.to + length (number_field c.args.group)) + length (number_field c.args.channel))
-            + length (number_field (down_count c.args.keys))) =
+    ≡ (((c.args.to + length (number_field c.args.group)) + length (number_field c.args.channel))
+    + length (number_field (down_count c.args.keys))) =
     omega (arith, c.put_number-fourth.ensures.place, count_long, at_count) in
     let at-lamps : c.put_number-row.result + 129 ≤ length c.args.out.now =
     omega (arith, c.put_number-row.ensures.place, at-lowest, room) in
@@ -77,29 +77,29 @@ bounds-out-row c =
 pub returns : goal.returns
 returns c =
     let at_count : c.put_number-third.result
-        ≡ ((c.args.to + length (number_field c.args.group)) + length (number_field c.args.channel)) =
+    ≡ ((c.args.to + length (number_field c.args.group)) + length (number_field c.args.channel)) =
     omega (arith, c.put_number-third.ensures.place, c.put_number-second.ensures.place) in
     let count_long : length (number_field c.count-count.result) ≡ length (number_field (down_count c.args.keys)) =
     ap (λ (n : ℕ). length (number_field n)) c.count-count.ensures in
     let at-lowest : c.put_number-fourth.result
-        ≡ (((c.args.to + length (number_field c.args.group)) + length (number_field c.args.channel))
-            + length (number_field (down_count c.args.keys))) =
+    ≡ (((c.args.to + length (number_field c.args.group)) + length (number_field c.args.channel))
+    + length (number_field (down_count c.args.keys))) =
     omega (arith, c.put_number-fourth.ensures.place, count_long, at_count) in
     let a = c.args in
     let long = line-long a.group a.channel a.keys a.lowest in record {
       place = omega (arith, c.put_number-row.ensures.place, at-lowest, long);
       text = line-stored a.group a.channel a.keys a.lowest _ a.to _ _ _ _ a.out.now _ _ _ _ _
           c.count-count.ensures (c.put_number-second.ensures.place, c.put_number-second.ensures.text)
-              (c.put_number-third.ensures.place, c.put_number-third.ensures.text)
+          (c.put_number-third.ensures.place, c.put_number-third.ensures.text)
           (c.put_number-fourth.ensures.place, c.put_number-fourth.ensures.text)
-              (c.put_number-row.ensures.place, c.put_number-row.ensures.text) c.put_lamps.ensures;
+          (c.put_number-row.ensures.place, c.put_number-row.ensures.text) c.put_lamps.ensures;
     }
 
 pub put_number-second-requires : goal.put_number-second-requires
 put_number-second-requires c =
     let room : ((((c.args.to + length (number_field c.args.group)) + length (number_field c.args.channel))
-        + length (number_field (down_count c.args.keys))) + length (number_field c.args.lowest)) + 129
-            ≤ length c.args.out.now =
+    + length (number_field (down_count c.args.keys))) + length (number_field c.args.lowest)) + 129
+    ≤ length c.args.out.now =
     let a = c.args in omega (arith, c.requires, line-long a.group a.channel a.keys a.lowest) in
     omega (arith, room)
 
@@ -110,17 +110,17 @@ put_lamps-requires c =
     let long-four : length c.put_number-row.new.out ≡ length c.args.out.now =
     c.put_number-row.auto.out ∙ c.put_number-fourth.auto.out ∙ long-two in
     let room : ((((c.args.to + length (number_field c.args.group)) + length (number_field c.args.channel))
-        + length (number_field (down_count c.args.keys))) + length (number_field c.args.lowest)) + 129
-            ≤ length c.args.out.now =
+    + length (number_field (down_count c.args.keys))) + length (number_field c.args.lowest)) + 129
+    ≤ length c.args.out.now =
     let a = c.args in omega (arith, c.requires, line-long a.group a.channel a.keys a.lowest) in
     let at_count : c.put_number-third.result
-        ≡ ((c.args.to + length (number_field c.args.group)) + length (number_field c.args.channel)) =
+    ≡ ((c.args.to + length (number_field c.args.group)) + length (number_field c.args.channel)) =
     omega (arith, c.put_number-third.ensures.place, c.put_number-second.ensures.place) in
     let count_long : length (number_field c.count-count.result) ≡ length (number_field (down_count c.args.keys)) =
     ap (λ (n : ℕ). length (number_field n)) c.count-count.ensures in
     let at-lowest : c.put_number-fourth.result
-        ≡ (((c.args.to + length (number_field c.args.group)) + length (number_field c.args.channel))
-            + length (number_field (down_count c.args.keys))) =
+    ≡ (((c.args.to + length (number_field c.args.group)) + length (number_field c.args.channel))
+    + length (number_field (down_count c.args.keys))) =
     omega (arith, c.put_number-fourth.ensures.place, count_long, at_count) in
     let at-lamps : c.put_number-row.result + 129 ≤ length c.args.out.now =
     omega (arith, c.put_number-row.ensures.place, at-lowest, room) in
@@ -129,17 +129,17 @@ put_lamps-requires c =
 pub overflow_add-out : goal.overflow_add-out
 overflow_add-out c =
     let room : ((((c.args.to + length (number_field c.args.group)) + length (number_field c.args.channel))
-        + length (number_field (down_count c.args.keys))) + length (number_field c.args.lowest)) + 129
-            ≤ length c.args.out.now =
+    + length (number_field (down_count c.args.keys))) + length (number_field c.args.lowest)) + 129
+    ≤ length c.args.out.now =
     let a = c.args in omega (arith, c.requires, line-long a.group a.channel a.keys a.lowest) in
     let at_count : c.put_number-third.result
-        ≡ ((c.args.to + length (number_field c.args.group)) + length (number_field c.args.channel)) =
+    ≡ ((c.args.to + length (number_field c.args.group)) + length (number_field c.args.channel)) =
     omega (arith, c.put_number-third.ensures.place, c.put_number-second.ensures.place) in
     let count_long : length (number_field c.count-count.result) ≡ length (number_field (down_count c.args.keys)) =
     ap (λ (n : ℕ). length (number_field n)) c.count-count.ensures in
     let at-lowest : c.put_number-fourth.result
-        ≡ (((c.args.to + length (number_field c.args.group)) + length (number_field c.args.channel))
-            + length (number_field (down_count c.args.keys))) =
+    ≡ (((c.args.to + length (number_field c.args.group)) + length (number_field c.args.channel))
+    + length (number_field (down_count c.args.keys))) =
     omega (arith, c.put_number-fourth.ensures.place, count_long, at_count) in
     let at-lamps : c.put_number-row.result + 129 ≤ length c.args.out.now =
     omega (arith, c.put_number-row.ensures.place, at-lowest, room) in
@@ -150,17 +150,17 @@ overflow_add-out c =
 pub overflow_add-result : goal.overflow_add-result
 overflow_add-result c =
     let room : ((((c.args.to + length (number_field c.args.group)) + length (number_field c.args.channel))
-        + length (number_field (down_count c.args.keys))) + length (number_field c.args.lowest)) + 129
-            ≤ length c.args.out.now =
+    + length (number_field (down_count c.args.keys))) + length (number_field c.args.lowest)) + 129
+    ≤ length c.args.out.now =
     let a = c.args in omega (arith, c.requires, line-long a.group a.channel a.keys a.lowest) in
     let at_count : c.put_number-third.result
-        ≡ ((c.args.to + length (number_field c.args.group)) + length (number_field c.args.channel)) =
+    ≡ ((c.args.to + length (number_field c.args.group)) + length (number_field c.args.channel)) =
     omega (arith, c.put_number-third.ensures.place, c.put_number-second.ensures.place) in
     let count_long : length (number_field c.count-count.result) ≡ length (number_field (down_count c.args.keys)) =
     ap (λ (n : ℕ). length (number_field n)) c.count-count.ensures in
     let at-lowest : c.put_number-fourth.result
-        ≡ (((c.args.to + length (number_field c.args.group)) + length (number_field c.args.channel))
-            + length (number_field (down_count c.args.keys))) =
+    ≡ (((c.args.to + length (number_field c.args.group)) + length (number_field c.args.channel))
+    + length (number_field (down_count c.args.keys))) =
     omega (arith, c.put_number-fourth.ensures.place, count_long, at_count) in
     let at-lamps : c.put_number-row.result + 129 ≤ length c.args.out.now =
     omega (arith, c.put_number-row.ensures.place, at-lowest, room) in
@@ -171,17 +171,17 @@ overflow_add-result c =
 pub overflow_add-result-2 : goal.overflow_add-result-2
 overflow_add-result-2 c =
     let room : ((((c.args.to + length (number_field c.args.group)) + length (number_field c.args.channel))
-        + length (number_field (down_count c.args.keys))) + length (number_field c.args.lowest)) + 129
-            ≤ length c.args.out.now =
+    + length (number_field (down_count c.args.keys))) + length (number_field c.args.lowest)) + 129
+    ≤ length c.args.out.now =
     let a = c.args in omega (arith, c.requires, line-long a.group a.channel a.keys a.lowest) in
     let at_count : c.put_number-third.result
-        ≡ ((c.args.to + length (number_field c.args.group)) + length (number_field c.args.channel)) =
+    ≡ ((c.args.to + length (number_field c.args.group)) + length (number_field c.args.channel)) =
     omega (arith, c.put_number-third.ensures.place, c.put_number-second.ensures.place) in
     let count_long : length (number_field c.count-count.result) ≡ length (number_field (down_count c.args.keys)) =
     ap (λ (n : ℕ). length (number_field n)) c.count-count.ensures in
     let at-lowest : c.put_number-fourth.result
-        ≡ (((c.args.to + length (number_field c.args.group)) + length (number_field c.args.channel))
-            + length (number_field (down_count c.args.keys))) =
+    ≡ (((c.args.to + length (number_field c.args.group)) + length (number_field c.args.channel))
+    + length (number_field (down_count c.args.keys))) =
     omega (arith, c.put_number-fourth.ensures.place, count_long, at_count) in
     let at-lamps : c.put_number-row.result + 129 ≤ length c.args.out.now =
     omega (arith, c.put_number-row.ensures.place, at-lowest, room) in

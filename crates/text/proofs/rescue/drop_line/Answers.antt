@@ -21,8 +21,8 @@ is_room-requires c =
 pub put_number-rest-requires : goal.put_number-rest-requires
 put_number-rest-requires c =
     let fits : (t : Bool)
-        → c.is_room.result ≡ t
-            → let a = c.args in leb (length (drop_line a.at a.answer a.count a.bad)) (length a.out.now - a.to) ≡ t =
+    → c.is_room.result ≡ t
+    → let a = c.args in leb (length (drop_line a.at a.answer a.count a.bad)) (length a.out.now - a.to) ≡ t =
     λ t e. let a = c.args in
     row_fits (drop_line a.at a.answer a.count a.bad) _ _ t c.drop_bytes-bytes.ensures (sym e ∙ c.is_room.ensures) in
     let a = c.args in
@@ -37,8 +37,8 @@ pub returns-then-is_room : goal.returns-then-is_room
 unfolding drop_line
 returns-then-is_room c =
     let fits : (t : Bool)
-        → c.is_room.result ≡ t
-            → let a = c.args in leb (length (drop_line a.at a.answer a.count a.bad)) (length a.out.now - a.to) ≡ t =
+    → c.is_room.result ≡ t
+    → let a = c.args in leb (length (drop_line a.at a.answer a.count a.bad)) (length a.out.now - a.to) ≡ t =
     λ t e. let a = c.args in
     row_fits (drop_line a.at a.answer a.count a.bad) _ _ t c.drop_bytes-bytes.ensures (sym e ∙ c.is_room.ensures) in
     let some : let a = c.args in 0 < length (drop_line a.at a.answer a.count a.bad) =
@@ -46,7 +46,7 @@ returns-then-is_room c =
     let a = c.args in
     let r = two-put a.out.now _ _ (number_then 32 a.at) (line_of a.answer a.count a.bad []) a.to _ _
     c.put_number-rest.auto.out (fits _ c.if-is_room.true) some
-        (c.put_number-rest.ensures.place, c.put_number-rest.ensures.text)
+    (c.put_number-rest.ensures.place, c.put_number-rest.ensures.text)
     (c.line.ensures.place, c.line.ensures.text) in
     record {
       place = r.0;

@@ -16,8 +16,8 @@ returns-then-is_room c =
     let long : let a = c.args in length (a.name.now ++ number_line a.n) ≡ 6 + length (number_line a.n) =
     let a = c.args in omega (arith, c.requires, length-append a.name.now (number_line a.n)) in
     let fits : (t : Bool)
-        → c.is_room.result ≡ t
-            → let a = c.args in leb (length (a.name.now ++ number_line a.n)) (length a.out.now - a.to) ≡ t =
+    → c.is_room.result ≡ t
+    → let a = c.args in leb (length (a.name.now ++ number_line a.n)) (length a.out.now - a.to) ≡ t =
     λ t e. let a = c.args in
     row_fits (a.name.now ++ number_line a.n) _ _ t
     (omega (arith, c.places.ensures.count, number-length 10 a.n, long)) (sym e ∙ c.is_room.ensures) in
@@ -35,8 +35,8 @@ returns-else-is_room c =
     let long : let a = c.args in length (a.name.now ++ number_line a.n) ≡ 6 + length (number_line a.n) =
     let a = c.args in omega (arith, c.requires, length-append a.name.now (number_line a.n)) in
     let fits : (t : Bool)
-        → c.is_room.result ≡ t
-            → let a = c.args in leb (length (a.name.now ++ number_line a.n)) (length a.out.now - a.to) ≡ t =
+    → c.is_room.result ≡ t
+    → let a = c.args in leb (length (a.name.now ++ number_line a.n)) (length a.out.now - a.to) ≡ t =
     λ t e. let a = c.args in
     row_fits (a.name.now ++ number_line a.n) _ _ t
     (omega (arith, c.places.ensures.count, number-length 10 a.n, long)) (sym e ∙ c.is_room.ensures) in

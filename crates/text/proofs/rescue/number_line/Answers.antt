@@ -14,10 +14,10 @@ use Rattle.text.proofs.rescue.number_line.Goals as goal
 pub put_number-requires : goal.put_number-requires
 put_number-requires c =
     let fits : (t : Bool)
-        → c.is_room.result ≡ t → let a = c.args in leb (length (number_line a.n)) (length a.out.now - a.to) ≡ t =
+    → c.is_room.result ≡ t → let a = c.args in leb (length (number_line a.n)) (length a.out.now - a.to) ≡ t =
     λ t e. let a = c.args in
     row_fits (number_line a.n) _ _ t (omega (arith, c.places.ensures.count, number-length 10 a.n))
-        (sym e ∙ c.is_room.ensures) in
+    (sym e ∙ c.is_room.ensures) in
     let a = c.args in
     omega (
       arith,
@@ -28,13 +28,13 @@ put_number-requires c =
 pub returns-then-is_room : goal.returns-then-is_room
 returns-then-is_room c =
     let fits : (t : Bool)
-        → c.is_room.result ≡ t → let a = c.args in leb (length (number_line a.n)) (length a.out.now - a.to) ≡ t =
+    → c.is_room.result ≡ t → let a = c.args in leb (length (number_line a.n)) (length a.out.now - a.to) ≡ t =
     λ t e. let a = c.args in
     row_fits (number_line a.n) _ _ t (omega (arith, c.places.ensures.count, number-length 10 a.n))
-        (sym e ∙ c.is_room.ensures) in
+    (sym e ∙ c.is_room.ensures) in
     let a = c.args in
     let r = is-put a.out.now _ (number_line a.n) a.to _ (fits _ c.if-is_room.true)
-        (c.put_number.ensures.place, c.put_number.ensures.text) in
+    (c.put_number.ensures.place, c.put_number.ensures.text) in
     record {
       place = r.0;
       text = r.1;
@@ -43,10 +43,10 @@ returns-then-is_room c =
 pub returns-else-is_room : goal.returns-else-is_room
 returns-else-is_room c =
     let fits : (t : Bool)
-        → c.is_room.result ≡ t → let a = c.args in leb (length (number_line a.n)) (length a.out.now - a.to) ≡ t =
+    → c.is_room.result ≡ t → let a = c.args in leb (length (number_line a.n)) (length a.out.now - a.to) ≡ t =
     λ t e. let a = c.args in
     row_fits (number_line a.n) _ _ t (omega (arith, c.places.ensures.count, number-length 10 a.n))
-        (sym e ∙ c.is_room.ensures) in
+    (sym e ∙ c.is_room.ensures) in
     let a = c.args in
     let r = not-put a.out.now (number_line a.n) a.to (fits _ c.if-is_room.false) in
     record {

@@ -11,7 +11,7 @@ use Rattle.text.proofs.whole.dropped.Goals as goal
 pub put_dropped-requires : goal.put_dropped-requires
 put_dropped-requires c =
     let bytes : let a = c.args in c.places-digits.result + c.head_bytes-head.result + 2 + 1 * 0
-        ≡ length (dropped_line a.answer a.chain) =
+    ≡ length (dropped_line a.answer a.chain) =
     let a = c.args in
     omega (arith, c.head_bytes-head.ensures.count, c.places-digits.ensures.count, dropped-length a.answer a.chain) in
     let a = c.args in
@@ -23,7 +23,7 @@ put_dropped-requires c =
 pub returns-then-has_room : goal.returns-then-has_room
 returns-then-has_room c =
     let bytes : let a = c.args in c.places-digits.result + c.head_bytes-head.result + 2 + 1 * 0
-        ≡ length (dropped_line a.answer a.chain) =
+    ≡ length (dropped_line a.answer a.chain) =
     let a = c.args in
     omega (arith, c.head_bytes-head.ensures.count, c.places-digits.ensures.count, dropped-length a.answer a.chain) in
     let a = c.args in
@@ -37,7 +37,7 @@ returns-then-has_room c =
 pub returns-else-has_room : goal.returns-else-has_room
 returns-else-has_room c =
     let bytes : let a = c.args in c.places-digits.result + c.head_bytes-head.result + 2 + 1 * 0
-        ≡ length (dropped_line a.answer a.chain) =
+    ≡ length (dropped_line a.answer a.chain) =
     let a = c.args in
     omega (arith, c.head_bytes-head.ensures.count, c.places-digits.ensures.count, dropped-length a.answer a.chain) in
     let a = c.args in

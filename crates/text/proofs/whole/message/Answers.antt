@@ -11,7 +11,7 @@ use Rattle.text.proofs.whole.message.Goals as goal
 pub put_message-requires : goal.put_message-requires
 put_message-requires c =
     let bytes : let a = c.args in c.head_bytes-head.result + 1 + 3 * length a.bytes.now
-        ≡ length (message_line a.chain a.bytes.now) =
+    ≡ length (message_line a.chain a.bytes.now) =
     let a = c.args in omega (arith, c.head_bytes-head.ensures.count, message-length a.chain a.bytes.now) in
     let a = c.args in
     let n = c.head_bytes-head.result + 1 + 3 * length a.bytes.now in
@@ -21,7 +21,7 @@ put_message-requires c =
 pub returns-then-has_room : goal.returns-then-has_room
 returns-then-has_room c =
     let bytes : let a = c.args in c.head_bytes-head.result + 1 + 3 * length a.bytes.now
-        ≡ length (message_line a.chain a.bytes.now) =
+    ≡ length (message_line a.chain a.bytes.now) =
     let a = c.args in omega (arith, c.head_bytes-head.ensures.count, message-length a.chain a.bytes.now) in
     let a = c.args in
     let r = is-put a.out.now (message_line a.chain a.bytes.now) a.to _ _ bytes c.has_room.ensures _ _
@@ -34,7 +34,7 @@ returns-then-has_room c =
 pub returns-else-has_room : goal.returns-else-has_room
 returns-else-has_room c =
     let bytes : let a = c.args in c.head_bytes-head.result + 1 + 3 * length a.bytes.now
-        ≡ length (message_line a.chain a.bytes.now) =
+    ≡ length (message_line a.chain a.bytes.now) =
     let a = c.args in omega (arith, c.head_bytes-head.ensures.count, message-length a.chain a.bytes.now) in
     let a = c.args in
     let r = not-put a.out.now (message_line a.chain a.bytes.now) a.to _ _ bytes c.has_room.ensures

@@ -11,8 +11,14 @@ pub spell-requires : goal.spell-requires
 spell-requires c = (
   omega arith,
   omega arith,
-  omega (arith, c.requires, head-length c.args.chain, c.sort_bytes-name.ensures.count, c.places-digits.ensures.count,
-      c.put_sort.auto.out),
+  omega (
+    arith,
+    c.requires,
+    head-length c.args.chain,
+    c.sort_bytes-name.ensures.count,
+    c.places-digits.ensures.count,
+    c.put_sort.auto.out,
+  ),
 )
 
 pub returns : goal.returns
@@ -20,7 +26,9 @@ returns c =
     let a = c.args in
     record {
       place = omega (arith, head-length a.chain, c.sort_bytes-name.ensures.count, c.places-digits.ensures.count);
-      text = rw (c.spell.ensures,
-          c.put_sort.ensures) (head-stored a.out.now a.to a.chain _ _ c.sort_bytes-name.ensures.count
-              c.places-digits.ensures.count);
+      text = rw (
+        c.spell.ensures,
+        c.put_sort.ensures,
+      ) (head-stored a.out.now a.to a.chain _ _ c.sort_bytes-name.ensures.count
+          c.places-digits.ensures.count);
     }

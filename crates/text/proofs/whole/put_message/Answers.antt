@@ -25,8 +25,12 @@ bounds-out-end c =
 pub returns : goal.returns
 returns c =
     let a = c.args in record {
-      place = omega (arith, message-length a.chain a.bytes.now, c.put_byte_fields-end.ensures.place,
-          c.put_head-fields.ensures.place);
+      place = omega (
+        arith,
+        message-length a.chain a.bytes.now,
+        c.put_byte_fields-end.ensures.place,
+        c.put_head-fields.ensures.place,
+      );
       text = message-stored a.out.now _ _ a.to a.chain _ _ a.bytes.now
           (c.put_head-fields.ensures.place, c.put_head-fields.ensures.text)
           (c.put_byte_fields-end.ensures.place, c.put_byte_fields-end.ensures.text);
