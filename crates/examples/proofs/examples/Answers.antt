@@ -10,12 +10,8 @@ use Rattle.lift.specs.Lift.{addressed2, banked2, control_of, controlled, data_hi
 use Rattle.lower.specs.Lower.{lower, sounding}
 use Rattle.voice.specs.Packet.{call_by, call_down_by, packet_down_by, packet_if, speak_down, speak_if}
 use Rattle.examples.specs.Examples.{Examples, examples, going_down, going_up}
-use Rattle.examples.proofs.examples.Statement.{statement}
-use Rattle.examples.proofs.examples.Tie as tie
+use Rattle.examples.proofs.examples.Goals as goal
 
-returns : tie.Need-returns
+pub returns : goal.returns
 unfolding fill up packet size checked_fields bad_place good_status voice1_fields voice2_fields admitted outside screen_by screened kept sound with_data_high bank_of first2 read1 read2 second2 write1 addressed2 banked2 control_of controlled data_high data_low lift lower sounding call_down_by call_by packet_down_by packet_if speak_down speak_if Examples examples going_down going_up
 returns c = refl
-
-pub examples_spec : {M : Type 1} → statement M
-examples_spec = tie.close (tie.spec returns)
