@@ -13,5 +13,8 @@ use Rattle.examples.specs.Examples.{Examples, examples, going_down, going_up}
 use Rattle.examples.proofs.examples.Goals as goal
 
 pub returns : goal.returns
-unfolding fill up packet size checked_fields bad_place good_status voice1_fields voice2_fields admitted outside screen_by screened kept sound with_data_high bank_of first2 read1 read2 second2 write1 addressed2 banked2 control_of controlled data_high data_low lift lower sounding call_down_by call_by packet_down_by packet_if speak_down speak_if Examples examples going_down going_up
+unfolding fill up packet size checked_fields bad_place good_status voice1_fields voice2_fields admitted outside
+    screen_by screened kept sound with_data_high bank_of first2 read1 read2 second2 write1 addressed2 banked2 control_of
+    controlled data_high data_low lift lower sounding call_down_by call_by packet_down_by packet_if speak_down speak_if
+    Examples examples going_down going_up
 returns c = refl
