@@ -1,5 +1,5 @@
 -- Recordings (RULES 15; 02 M-109): what stands before the words, what is kept of them, and what is said.
-use Rattle.std.specs.Prelude.{ℕ, ◌+◌, ◌-◌, ◌/◌, ◌%◌, ◌^◌, Bool, true, false, cond, ◌&&◌, List, [], ◌∷◌, ◌++◌, length, ◌==◌, slice_index, slice_index_or}
+use Rattle.std.specs.Prelude.{ℕ, ◌+◌, ◌-◌, ◌/◌, ◌%◌, ◌^◌, Bool, true, false, cond, ◌&&◌, List, [], ◌∷◌, length, ◌==◌, slice_index, slice_index_or}
 use Rattle.ump.specs.Packet.{first}
 use Rattle.ump.specs.Word.{bits, message_type, status}
 use Rattle.stream.specs.Answers.{cut_packet, sent, wrong_mark, wrong_version}
