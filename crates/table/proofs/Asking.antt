@@ -1,16 +1,15 @@
 -- All records asked before a run: what the loop of `run_told` keeps, and that the run it tells of is the run that asks
 -- at each voice message. Assumes nothing.
-use Prim.Native.Nat.{ℕ, zero, suc, ◌-◌, ◌<◌}
-use mathlib.Core.Path.{◌≡◌, refl, sym, ap, ◌∙◌}
+use Prim.Native.Nat.{ℕ, zero, suc, ◌+◌}
+use Rattle.std.proofs.Common.{add-one}
+use Rattle.std.proofs.lemmas.List.{get_or_default}
+use mathlib.Core.Path.{◌≡◌, sym, ap, ◌∙◌}
 use mathlib.Core.Bool.{Bool, true, false, cond, ◌&&◌}
 use mathlib.Core.List.{List, [], ◌∷◌}
-use mathlib.Core.WellFounded.InvImage
-use mathlib.Core.WellFounded.{WellFounded}
 use lib.Dec.{eqb, leb, ltb}
 use lib.ListN.{drop, drop_of_length-le, get_or, length}
 use lib.Seq.{drop-cons}
-use lib.WfN.{lt-wf_rel}
-use borrow.Author.Tests.{eqb-true, ltb-false}
+use borrow.Author.Tests.{eqb-true, ltb-false, ltb-true}
 use Rattle.ground.proofs.Bools.{and_left, and_right}
 use Rattle.ground.proofs.Cases.{by_bool}
 use Rattle.memory.proofs.Sound.{proved-stays-sound}
@@ -22,42 +21,27 @@ use Rattle.table.specs.Job.{all_sound, asked, known_run, knows, long_run, run_to
 use Rattle.table.proofs.KnownLaws.{known-run}
 
 -- The loop has come to a place: it knows the records before it, and the rest decides.
-pub record Turn (words : ℕ) (t : List Record) : Type 0 where
-  pub known : Bool
-  pub place : ℕ
-  pub rest : (known && all_sound (drop place t)) ≡ knows words t
+abbrev pub Rest : ℕ → List Record → Bool → ℕ → Type 0
+Rest words t known place = (known && all_sound (drop place t)) ≡ knows words t
 
 module _ (words : ℕ) (t : List Record) where
-  abbrev pub first-turn : Turn words t
-  first-turn = record { known = leb long_run words; place = 0; rest = refl }
-
   -- one more record is asked
-  pub next-rest : (u : Turn words t) → u.known ≡ true → u.place < length t
-      → (sound (get_or t u.place empty) && all_sound (drop (suc u.place) t)) ≡ knows words t
+  pub next-rest : (known : Bool) (place : ℕ) → Rest words t known place
+      → (known && ltb place (length t)) ≡ true → (d : Record) (k : Bool) → k ≡ sound (get_or t place d)
+      → Rest words t k (place + 1)
   unfolding all_sound
-  next-rest u e h =
-      sym (ap all_sound (drop-cons t u.place empty h)) ∙ sym (ap (λ (k : Bool). k && all_sound (drop u.place t)) e)
-      ∙ u.rest
+  next-rest known place r e d k f =
+      let h = ltb-true place (length t) (and_right known (ltb place (length t)) e) in
+      rw (f ∙ ap sound (get_or_default t place d empty h), add-one place)
+      (sym (ap all_sound (drop-cons t place empty h))
+      ∙ sym (ap (λ (b : Bool). b && all_sound (drop place t)) (and_left known (ltb place (length t)) e)) ∙ r)
 
   -- the loop ends at a record that is not sound, or after the last one
-  pub ended : (u : Turn words t) → (u.known && ltb u.place (length t)) ≡ false → u.known ≡ knows words t
+  pub ended : (known : Bool) (place : ℕ) → Rest words t known place → (known && ltb place (length t)) ≡ false
+      → known ≡ knows words t
   unfolding all_sound
-  ended u e = by-known u.known u.rest e
-    where
-      by-known : (k : Bool) → (k && all_sound (drop u.place t)) ≡ knows words t
-          → (k && ltb u.place (length t)) ≡ false → k ≡ knows words t
-      by-known false r f = r
-      by-known true r f =
-          sym (ap all_sound (drop_of_length-le t {i = u.place} (ltb-false u.place (length t) f))) ∙ r
-
-  abbrev pub left : Turn words t → ℕ
-  left u = length t - u.place
-
-  abbrev pub Fewer : Turn words t → Turn words t → Type 0
-  Fewer u s = left u < left s
-
-  pub Fewer-wf : WellFounded Fewer
-  Fewer-wf = InvImage.wf left lt-wf_rel.wf
+  ended false place r e = r
+  ended true place r e = sym (ap all_sound (drop_of_length-le t {i = place} (ltb-false place (length t) e))) ∙ r
 
   -- what the loop found is what the run is told
   pub told : (k : Bool) → k ≡ knows words t → cond k known_run whole_run ≡ run_told words t

@@ -2,10 +2,9 @@
 -- lacks
 -- room. Assumes nothing.
 use Prim.Native.Nat.{ℕ}
-use mathlib.Core.Path.{◌≡◌, refl, sym, ap, ◌∙◌}
-use mathlib.Core.Bool.{true, false}
+use mathlib.Core.Path.{◌≡◌, refl, sym, ◌∙◌}
+use mathlib.Core.Bool.{true}
 use mathlib.Core.List.{List, [], ◌∷◌}
-use lib.Dec.{eqb}
 use lib.ListN.{get_or, length, length-set, set}
 use borrow.Author.Tests.{eq-eqb}
 use Rattle.ground.proofs.Cases.{not-both}
@@ -13,7 +12,7 @@ use Rattle.ump.specs.Word.{place_of}
 use Rattle.ump.specs.Packet.{cut, first, packet}
 use Rattle.stream.specs.Answers.{cut_packet, no_room, sent}
 use Rattle.stream.specs.Call.{Call, stopped, went, within}
-use Rattle.stream.specs.Run.{Ran, run, then_run}
+use Rattle.stream.specs.Run.{run, then_run}
 use Rattle.stream.proofs.RunLaws.{Does, run-does, within-does}
 use Rattle.screen.specs.Screen.{open_rule}
 use Rattle.channel.specs.declared.Record.{Record}
@@ -23,7 +22,7 @@ use Rattle.lift.specs.Played.{record_after}
 use Rattle.lift.proofs.LiftLaws.{lift-sound, read1-fits}
 use Rattle.voice.specs.Packet.{call_by, call_up}
 use Rattle.voice.proofs.PacketLaws.{up-does}
-use Rattle.table.specs.Table.{SoundTable, run_by, run_up, stored, table_after, table_by, table_up}
+use Rattle.table.specs.Table.{SoundTable, run_by, run_up, stored, table_by, table_up}
 use Rattle.table.proofs.KeptLaws.{at_set}
 
 -- a whole table of sound records, which each call keeps

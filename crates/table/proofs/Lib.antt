@@ -3,7 +3,4 @@ pub mod KeptLaws
 pub mod KnownLaws
 pub mod Asking
 pub mod StepLaws
-pub mod Values
 pub mod Turns
-pub mod Calls
-pub mod ArrayLent

@@ -5,7 +5,10 @@ use mathlib.Core.Bool.{true, false, ◌||◌}
 use mathlib.Core.List.{List, ◌∷◌}
 use native.Mathlib.Omega.{arith}
 use lib.ListN.{drop, get_or, length, set, take}
+use lib.Seq.{set-get_or}
 use lib.Dec.{eqb}
+use borrow.Author.Tests.{eq-eqb}
+use Rattle.std.proofs.lemmas.List.{get_or_default}
 use Rattle.ground.specs.Store.{written}
 use Rattle.ump.specs.Word.{data1, place_of}
 use Rattle.ump.specs.Packet.{size}
@@ -66,6 +69,35 @@ module _ (j : Job) (ws : List ℕ) (d : Done) (t : List Record) (out : List ℕ)
       made
   unfolding effected
   left_alone h = rw h
+
+  -- What `one` does with the record that stands at a place: `e` is what is read past the end, where it does not stand.
+  module _ (l : length t ≡ whole_table) (i : ℕ) (p : i ≡ place_at ws d.read) (e : Record) (s : EffectAndReport)
+      (z : s ≡ turn_at (record_step j) ws d (get_or t i e) out) where
+    own_is : get_or t i e ≡ own
+    own_is =
+        ap (λ (n : ℕ). get_or t n e) p ∙ get_or_default t (place_at ws d.read) e empty (place-lt t ws d.read l)
+
+    turn_is : s ≡ turn
+    turn_is = z ∙ ap (λ (r : Record). turn_at (record_step j) ws d r out) own_is
+
+    pub told : s.done ≡ report_after_call (table_step j) ws d t out
+    told = ap (λ (x : EffectAndReport). x.done) turn_is ∙ (as-table l).0
+
+    pub wrote : (o : List ℕ) → o ≡ output_after_call (record_step j) ws d (get_or t i e) out
+        → o ≡ output_after_call (table_step j) ws d t out
+    wrote o f = f ∙ ap (λ (r : Record). output_after_call (record_step j) ws d r out) own_is ∙ (as-table l).2
+
+    pub stays : s.effect ≡ leaves → t ≡ state_after (table_step j) ws d t out
+    stays h =
+        sym (set-get_or t (place_at ws d.read) empty)
+        ∙ left_alone (eq-eqb turn.effect leaves (sym (ap (λ (x : EffectAndReport). x.effect) turn_is) ∙ h))
+        ∙ (as-table l).1
+
+    pub replaced : (key : ℕ) → key ≡ data1 (get_or ws d.read 0) → (r : Record)
+        → r ≡ effected (get_or t i e) s.effect s.after key → set t i r ≡ state_after (table_step j) ws d t out
+    replaced key q r f =
+        let made_is : r ≡ made = f ∙ rw (own_is, turn_is, q) in
+        ap (λ (n : ℕ). set t n r) p ∙ ap (set t (place_at ws d.read)) made_is ∙ (as-table l).1
 
 -- what the loop asks of a step: that it looks at its own packet alone, goes on only with a whole one, and refuses a
 -- table

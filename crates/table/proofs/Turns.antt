@@ -1,19 +1,14 @@
 -- What the loop of `treat` keeps: while there is more, what was done and then the run from here is the whole run; else
--- all
--- is done. Assumes nothing.
+-- all is done. Assumes nothing.
 use mathlib.Core.Path.{◌≡◌, refl, sym, ap, ◌∙◌, subst}
 use Prim.Native.Nat.{ℕ, suc, ◌+◌, ◌-◌, ◌<◌, ◌≤◌}
 use native.Mathlib.Omega.{arith}
 use native.Mathlib.Nat.{zero-add, sub-zero}
 use mathlib.Core.Bool.{Bool, true, false, cond, not, ◌&&◌, ◌||◌}
 use mathlib.Core.List.{List}
-use mathlib.Core.WellFounded.InvImage
-use mathlib.Core.WellFounded.{WellFounded}
-use lib.WfN.{lt-wf_rel}
 use lib.ListN.{drop, length}
 use lib.Dec.{eqb, ltb}
 use borrow.Author.Tests.{eqb-true, eqb-false, eq-eqb, ltb-true, ltb-false}
-use denote.Laws.{Is}
 use Rattle.ground.specs.Store.{written}
 use Rattle.ground.proofs.Cases.{not-both}
 use Rattle.ground.proofs.StoreLaws.{start-written}
@@ -32,7 +27,6 @@ use Rattle.table.specs.declared.Job.{Job}
 use Rattle.table.specs.declared.Progress.{Progress}
 use Rattle.table.specs.Job.{asked, asked_by, asked_report, table_step}
 use Rattle.table.specs.Next.{call_at, output_after_call, report_after_call, state_after}
-use Rattle.table.proofs.Values.{P, vals_p}
 
 -- How far the loop is: before its first packet, in a table of n records and l words; and after a call that leaves the
 -- report e, where d was the report before it.
@@ -219,100 +213,70 @@ module _ (j : Job) (ws : List ℕ) (tb₀ : List Record) (out₀ : List ℕ) whe
       go once true e = goes (eqb-true (length tb₀) whole_table e) once (ltb 0 (length ws)) refl
       go once false e = refused once e
 
--- what a turn begins with
-pub record State : Type 0 where
-  pub p : Progress
-  pub tb : List Record
-  pub out : List ℕ
+same : (p q : Progress) → p.done ≡ q.done → p.more ≡ q.more → p ≡ q
+same p q e f =
+    ap (λ (d : Done). record { done = d; more = p.more }) e ∙ ap (λ (b : Bool). record { done = q.done; more = b }) f
 
-abbrev pub next_of : Job → List ℕ → State → State
-next_of j ws s =
-    record {
-      p = moved j.once (length ws) s.p.done (report_after_call (table_step j) ws s.p.done s.tb s.out);
-      tb = state_after (table_step j) ws s.p.done s.tb s.out;
-      out = output_after_call (table_step j) ws s.p.done s.tb s.out;
-    }
+module _ (ws : List ℕ) (j : Job) (tb₀ : List Record) (out₀ : List ℕ) where
+  -- what the loop keeps
+  abbrev pub Keeps : Progress → List Record → List ℕ → Type 0
+  Keeps p tb out = Stands j ws tb₀ out₀ j.once p.more p tb out
 
-module _ (ws : List ℕ) (j : Job) (tb : List Record) (out : List ℕ) where
-  pub record Turn : Type 0 where
-    pub st : State
-    pub good : Is P st.p (vals_p st.p)
-    pub tb-long : length st.tb ≡ length tb
-    pub out-long : length st.out ≡ length out
-    pub stands : Stands j ws tb out j.once st.p.more st.p st.tb st.out
+  pub opens : (p : Progress) → p.done ≡ (begun j.once (length tb₀) (length ws)).done
+      → p.more ≡ (begun j.once (length tb₀) (length ws)).more → Keeps p tb₀ out₀
+  opens p e f =
+      subst (λ (q : Progress). Keeps q tb₀ out₀) (sym (same p (begun j.once (length tb₀) (length ws)) e f))
+      (begins j ws tb₀ out₀ j.once)
 
-  abbrev left : Turn → ℕ
-  left t = cond t.st.p.more (suc (length ws - t.st.p.done.read)) 0
+  -- while there is more, a call has words to read
+  abbrev pub left : Progress → ℕ
+  left p = cond p.more (suc (length ws - p.done.read)) 0
 
-  abbrev pub Fewer : Turn → Turn → Type 0
-  Fewer t s = left t < left s
+  -- one more turn
+  module _ (p : Progress) (tb : List Record) (out : List ℕ) (e : p.more ≡ true) (k : Keeps p tb out)
+      (l : length tb ≡ length tb₀) where
+    going : Stands j ws tb₀ out₀ j.once true p tb out
+    going = subst (λ (b : Bool). Stands j ws tb₀ out₀ j.once b p tb out) e k
 
-  pub Fewer-wf : WellFounded Fewer
-  Fewer-wf = InvImage.wf left lt-wf_rel.wf
+    further : (q : Progress) (tb' : List Record) (out' : List ℕ) → Keeps q tb' out'
+        → (q.more ≡ true → (p.done.read < q.done.read) × (q.done.read ≤ length ws)) → Keeps q tb' out' × (left q < left p)
+    further q tb' out' h r =
+        (h, subst (λ (b : Bool). left q < cond b (suc (length ws - p.done.read)) 0) (sym e) (go q.more r))
+      where
+        go : (b : Bool) → (b ≡ true → (p.done.read < q.done.read) × (q.done.read ≤ length ws))
+            → cond b (suc (length ws - q.done.read)) 0 < suc (length ws - p.done.read)
+        go true h = let x = h refl in omega (arith, x.0, x.1)
+        go false h = omega arith
 
-  pub going : (t : Turn) → t.st.p.more ≡ true → Stands j ws tb out j.once true t.st.p t.st.tb t.st.out
-  going t e = subst (λ (b : Bool). Stands j ws tb out j.once b t.st.p t.st.tb t.st.out) e t.stands
-
-  pub stepped : (t : Turn) → t.st.p.more ≡ true → let n = next_of j ws t.st in length n.tb ≡ length t.st.tb
-      → Stands j ws tb out j.once n.p.more n.p n.tb n.out × (n.p.more ≡ true → (t.st.p.done.read <
-      n.p.done.read) × (n.p.done.read ≤ length ws))
-  stepped t e l = turned j ws tb out (sym t.tb-long ∙ (going t e).0) t.st.p t.st.tb t.st.out j.once l
-      (going t e)
-
-  -- the turn after one that has more
-  abbrev pub next-turn : (t : Turn) → t.st.p.more ≡ true → Is P (next_of j ws t.st).p (vals_p (next_of j ws t.st
-      ).p) → length (next_of j ws t.st).tb ≡ length t.st.tb → length (next_of j ws t.st).out ≡ length t.st.out → Turn
-  next-turn t e g l m = record {
-    st = next_of j ws t.st;
-    good = g;
-    tb-long = l ∙ t.tb-long;
-    out-long = m ∙ t.out-long;
-    stands = (stepped t e l).0;
-  }
-
-  pub fewer : (t : Turn) (e : t.st.p.more ≡ true) (g : Is P (next_of j ws t.st).p (vals_p (next_of j ws t.st
-      ).p)) (l : length (next_of j ws t.st).tb ≡ length t.st.tb) (m : length (next_of j ws t.st).out ≡ length
-      t.st.out)
-      → Fewer (next-turn t e g l m) t
-  fewer t e g l m = subst (λ (b : Bool). left (next-turn t e g l m) < cond b (suc (length ws - t.st.p.done.read)) 0)
-      (sym e) (go (next_of j ws t.st).p.more (stepped t e l).1)
-    where
-      i : ℕ
-      i = t.st.p.done.read
-
-      q : Progress
-      q = (next_of j ws t.st).p
-
-      go : (b : Bool) → (b ≡ true → (i < q.done.read) × (q.done.read ≤ length ws)) → cond b (suc (length ws - q.done.read)) 0 < suc (length ws - i)
-      go true h = let x = h refl in omega (arith, x.0, x.1)
-      go false h = omega arith
+    pub steps : (d : Done) (q : Progress) (tb' : List Record) (out' : List ℕ)
+        → d ≡ report_after_call (table_step j) ws p.done tb out → tb' ≡ state_after (table_step j) ws p.done tb out
+        → out' ≡ output_after_call (table_step j) ws p.done tb out → length tb' ≡ length tb
+        → q.done ≡ (moved j.once (length ws) p.done d).done → q.more ≡ (moved j.once (length ws) p.done d).more
+        → Keeps q tb' out' × (left q < left p)
+    steps d q tb' out' ed et eo lt eq em =
+        let d₁ : Done = report_after_call (table_step j) ws p.done tb out in
+        let q₁ : Progress = moved j.once (length ws) p.done d₁ in
+        let same_q : q ≡ q₁ =
+        same q (moved j.once (length ws) p.done d) eq em ∙ ap (λ (x : Done). moved j.once (length ws) p.done x) ed in
+        let z = turned j ws tb₀ out₀ (sym l ∙ going.0) p tb out j.once (ap (λ (x : List Record). length x) (sym et) ∙ lt) going in
+        rw (same_q, et, eo) (further q₁ (state_after (table_step j) ws p.done tb out) (output_after_call (table_step j) ws
+        p.done tb out) z.0 z.1)
 
   -- where there is no more, all is done, and the report is that of what was asked for
-  pub ended : (t : Turn) → t.st.p.more ≡ false
-      → let r = asked j (length out) tb ws in
-      let d = t.st.p.done in
-      DidRun r out d.answer d.read d.written t.st.tb t.st.out × (d ≡ asked_report j ws r)
+  pub ended : (p : Progress) (tb : List Record) (out : List ℕ) → p.more ≡ false → Keeps p tb out
+      → let r = asked j (length out₀) tb₀ ws in
+      DidRun r out₀ p.done.answer p.done.read p.done.written tb out × (p.done ≡ asked_report j ws r)
   unfolding asked
-  ended t e =
-      let z = subst (λ (b : Bool). Stands j ws tb out j.once b t.st.p t.st.tb t.st.out) e t.stands in (
+  ended p tb out e k =
+      let z = subst (λ (b : Bool). Stands j ws tb₀ out₀ j.once b p tb out) e k in (
         z.0,
-        told j.once t.st.p.done (asked_by (table_step j) j.once (length out) tb ws) (reports z.0) z.1,
+        told j.once p.done (asked_by (table_step j) j.once (length out₀) tb₀ ws) (reports z.0) z.1,
       )
     where
-      told : (once : Bool) (d : Done) (r : Ran (ℕ × List Record)) → counting d.answer d.read d.written ≡
-          reported r
-          → d.place ≡ cond once (place_told d.answer (packet ws)) 0 → d ≡ cond once (reported_call (packet ws) r)
-          (reported r)
+      told : (once : Bool) (d : Done) (r : Ran (ℕ × List Record)) → counting d.answer d.read d.written ≡ reported r
+          → d.place ≡ cond once (place_told d.answer (packet ws)) 0
+          → d ≡ cond once (reported_call (packet ws) r) (reported r)
       told true d r e f =
           ap (λ (x : ℕ). placing d.answer x d.read d.written) f
           ∙ ap (λ (x : Done). placing x.answer (place_told x.answer (packet ws)) x.read x.written) e
       told false d r e f = ap (λ (x : ℕ). placing d.answer x d.read d.written) f ∙ e
-
-  abbrev pub begun-at : State
-  begun-at = record { p = begun j.once (length tb) (length ws); tb = tb; out = out }
-
-  pub opens : Stands j ws tb out j.once begun-at.p.more begun-at.p tb out
-  opens = begins j ws tb out j.once
-
-  abbrev pub first-turn : Is P begun-at.p (vals_p begun-at.p) → Turn
-  first-turn g = record { st = begun-at; good = g; tb-long = refl; out-long = refl; stands = opens }

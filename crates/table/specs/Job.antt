@@ -2,9 +2,9 @@
 use Rattle.std.specs.Prelude.{ℕ, Bool, true, false, cond, ◌&&◌, List, [], ◌∷◌, leb}
 use Rattle.ump.specs.Packet.{packet}
 use Rattle.stream.specs.declared.Done.{Done}
-use Rattle.stream.specs.Call.{Call, within}
+use Rattle.stream.specs.Call.{Call}
 use Rattle.stream.specs.Report.{reported, reported_call}
-use Rattle.stream.specs.Run.{Ran, called}
+use Rattle.stream.specs.Run.{Ran}
 use Rattle.screen.specs.Screen.{beginners_rule, open_rule}
 use Rattle.channel.specs.declared.Record.{Record}
 use Rattle.channel.specs.Record.{sound}
