@@ -21,17 +21,21 @@ use Rattle.flow.specs.Listing.{run_lines}
 pub reads-most : {T : Type 0} (r : Ran T) (n : ℕ) (d : Done) → r.read ≤ n → d ≡ reported r → d.read ≤ n
 reads-most r n d h e = omega (arith, ap (λ (x : Done). x.read) e)
 
-pub up-reads : (room : ℕ) (t : List Record) (ws : List ℕ) (d : Done) → d ≡ reported (run_up room t ws) → d.read ≤ length ws
+pub up-reads : (room : ℕ) (t : List Record) (ws : List ℕ) (d : Done) → d ≡ reported (run_up room t ws)
+    → d.read ≤ length ws
 unfolding run_up
 up-reads room t ws d =
     reads-most (run_up room t ws) (length ws) d
-    (choose (λ (r : Ran (ℕ × List Record)). r.read ≤ length ws) (eqb (length t) whole_table) (λ _. words-read _ _ ws) (λ _. omega arith))
+    (choose (λ (r : Ran (ℕ × List Record)). r.read ≤ length ws) (eqb (length t) whole_table) (λ _. words-read _ _ ws)
+        (λ _. omega arith))
 
-lines-read : (room : ℕ) (t : List Record) (ws : List ℕ) (d : Done) → d ≡ reported (run_lines room t ws) → d.read ≤ length ws
+lines-read : (room : ℕ) (t : List Record) (ws : List ℕ) (d : Done) → d ≡ reported (run_lines room t ws)
+    → d.read ≤ length ws
 unfolding run_lines
 lines-read room t ws d =
     reads-most (run_lines room t ws) (length ws) d
-    (choose (λ (r : Ran (ℕ × List Record)). r.read ≤ length ws) (eqb (length t) whole_table) (λ _. words-read _ _ ws) (λ _. omega arith))
+    (choose (λ (r : Ran (ℕ × List Record)). r.read ≤ length ws) (eqb (length t) whole_table) (λ _. words-read _ _ ws)
+        (λ _. omega arith))
 
 pub down-reads : (room : ℕ) (ws : List ℕ) (d : Done) → d ≡ reported (run_down room ws) → d.read ≤ length ws
 unfolding run_down_by
@@ -58,6 +62,7 @@ module _ (room : ℕ) (t : List Record) (ws out out' : List ℕ) (d : Done) (sam
   pub lines-bounds : d ≡ reported (run_lines room t ws) → out' ≡ at_start (run_lines room t ws).sends out → Bounded
   lines-bounds e f = (lines-read room t ws d e, writes-most (run_lines room t ws) out out' d e f same)
 
-pub down-bounds : (room : ℕ) (ws out out' : List ℕ) (d : Done) → length out' ≡ length out → d ≡ reported (run_down room ws)
+pub down-bounds : (room : ℕ) (ws out out' : List ℕ) (d : Done) → length out' ≡ length out
+    → d ≡ reported (run_down room ws)
     → out' ≡ at_start (run_down room ws).sends out → (d.read ≤ length ws) × (d.written ≤ length out')
 down-bounds room ws out out' d l e f = (down-reads room ws d e, writes-most (run_down room ws) out out' d e f l)

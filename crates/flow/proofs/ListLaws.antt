@@ -1,5 +1,5 @@
--- The line of a call: what one packet's line makes of the text; and the step that lists looks at its own packet alone, goes
--- on only with a whole one, and stores the record as the call with the table does. Assumes nothing.
+-- The line of a call: what one packet's line makes of the text; and the step that lists looks at its own packet alone,
+-- goes on only with a whole one, and stores the record as the call with the table does. Assumes nothing.
 use Prim.Native.Nat.{ℕ, ◌+◌, ◌-◌, ◌≤◌}
 use mathlib.Core.Path.{◌≡◌, refl, sym, ap, ap₂, ◌∙◌}
 use mathlib.Core.Bool.{Bool, true, false, cond}
@@ -41,7 +41,8 @@ four₀ = replicate 4 0
 module _ (d : Done) (p text : List ℕ) (r : Record) (x : RecordAndReport) (four : List ℕ) where
   -- what the call c at the packet p says of itself and of the four words, and what its line then makes of the text
   abbrev pub Calls : Call Record → Type 0
-  Calls c = (x ≡ record_turned (counting sent d.read 0) p four₀ r c) × (four ≡ output_of (counting sent d.read 0) four₀ c)
+  Calls c = (x ≡ record_turned (counting sent d.read 0) p four₀ r c) ×
+      (four ≡ output_of (counting sent d.read 0) four₀ c)
 
   abbrev pub Lists : Call Record → RecordAndReport → List ℕ → Type 0
   Lists c y text' = (y ≡ record_turned d p text r (listed p c)) × (text' ≡ output_of d text (listed p c))
@@ -83,7 +84,8 @@ module _ (d : Done) (p text : List ℕ) (r : Record) (x : RecordAndReport) (four
       absurd (let y : ◌≡◌ {A = ℕ} 0 1 = cc q in omega arith)
 
   -- a call that goes on has its line, where there is room for it
-  pub line-some : (c : Call Record) (end : ℕ) (text' : List ℕ) → length (sent_of c) ≤ 4 → Calls c → (x.done.read ≡ d.read → ⊥)
+  pub line-some : (c : Call Record) (end : ℕ) (text' : List ℕ) → length (sent_of c) ≤ 4 → Calls c
+      → (x.done.read ≡ d.read → ⊥)
       → let row = line_of x.done.answer (x.done.read - d.read) x.done.place (take x.done.written four) in
       (end ≡ place_after text d.written row) × (text' ≡ with_row text d.written row)
       → Lined c end text'
@@ -92,7 +94,8 @@ module _ (d : Done) (p text : List ℕ) (r : Record) (x : RecordAndReport) (four
   line-some (went a ws v) end text' f e h l =
       let w = went-four a ws v f e in
       let n : d.read + length p - d.read ≡ length p = omega arith in
-      rw w.0 (go (leb (length line) room) refl (rw (w.0, w.1, take_at ws (drop (length ws) four₀) (length ws) refl, n) at l))
+      rw w.0 (go (leb (length line) room) refl
+          (rw (w.0, w.1, take_at ws (drop (length ws) four₀) (length ws) refl, n) at l))
     where
       line : List ℕ
       line = line_of a (length p) (place_told a p) ws
@@ -103,9 +106,11 @@ module _ (d : Done) (p text : List ℕ) (r : Record) (x : RecordAndReport) (four
       room : ℕ
       room = length text - to
 
-      go : (b : Bool) → leb (length line) room ≡ b → (end ≡ cond b (to + length line) to) × (text' ≡ with_row text to line)
+      go : (b : Bool) → leb (length line) room ≡ b
+          → (end ≡ cond b (to + length line) to) × (text' ≡ with_row text to line)
           → (end ≡ to → Lists (went a ws v) (record { after = r; done = counting no_room d.read to }) text')
-          × ((end ≡ to → ⊥) → Lists (went a ws v) (record { after = v; done = placing a (place_told a p) (d.read + length p) end }) text')
+          × ((end ≡ to → ⊥) → Lists (went a ws v)
+              (record { after = v; done = placing a (place_told a p) (d.read + length p) end }) text')
       go true b m =
           let h = leb-true (length line) room b in
           let q = line-length a (length p) (place_told a p) ws in
@@ -157,16 +162,19 @@ pub list_inside : (t : List Record) (w : ℕ) (s : List ℕ) → Inside (w ∷ s
 unfolding list_up
 list_inside t w s = listed-inside (packet (w ∷ s)) (w ∷ s) (table_up t (w ∷ s)) (table-inside open_rule false t w s)
 
-listed-stored : (p : List ℕ) (t : List Record) (k : ℕ) (c : Call Record) → listed p (stored t k c) ≡ stored t k (listed p c)
+listed-stored : (p : List ℕ) (t : List Record) (k : ℕ) (c : Call Record)
+    → listed p (stored t k c) ≡ stored t k (listed p c)
 listed-stored p t k (went a ws r) = refl
 listed-stored p t k (stopped a) = refl
 
 pub up-own : (ws : List ℕ) (t : List Record) (i : ℕ) → length t ≡ whole_table
-    → table_up t (drop i ws) ≡ stored t (place_at ws i) (packet_up (get_or t (place_at ws i) empty) (packet (drop i ws)))
+    → table_up t (drop i ws)
+        ≡ stored t (place_at ws i) (packet_up (get_or t (place_at ws i) empty) (packet (drop i ws)))
 unfolding call_by
 up-own ws t i l = table_at open_rule false ws t i l
 
 pub list-own : (ws : List ℕ) (t : List Record) (i : ℕ) → length t ≡ whole_table
     → list_up t (drop i ws) ≡ stored t (place_at ws i) (line_up (get_or t (place_at ws i) empty) (packet (drop i ws)))
 unfolding list_up
-list-own ws t i l = rw (up-own ws t i l) (listed-stored _ t (place_at ws i) (packet_up (get_or t (place_at ws i) empty) (packet (drop i ws))))
+list-own ws t i l = rw (up-own ws t i l)
+    (listed-stored _ t (place_at ws i) (packet_up (get_or t (place_at ws i) empty) (packet (drop i ws))))

@@ -1,5 +1,5 @@
--- A loop over a table by value, for every act of a packet with its own record: one more call, the record after it in its
--- place, and what that makes of the run so far. Assumes nothing.
+-- A loop over a table by value, for every act of a packet with its own record: one more call, the record after it in
+-- its place, and what that makes of the run so far. Assumes nothing.
 use Prim.Native.Nat.{ℕ, ◌+◌, ◌-◌, ◌<◌}
 use mathlib.Core.Path.{◌≡◌, refl, sym, ap, ◌∙◌, subst}
 use mathlib.Core.List.{List, ◌∷◌, map}
@@ -59,10 +59,12 @@ module _
       After x t' after =
           ((x.done.read ≡ i → ⊥) → Ups t' after x.done.read x.done.written × (i < x.done.read))
           × (x.done.read ≡ i
-          → DidRun (run (within step) (length out₀, t₀) (cut ws)) out₀ x.done.answer x.done.read x.done.written t' after)
+          → DidRun (run (within step) (length out₀, t₀)
+              (cut ws)) out₀ x.done.answer x.done.read x.done.written t' after)
 
       own_turn : (x : RecordAndReport) (t' : List Record) (after : List ℕ)
-          → x ≡ record_turned (counting sent i n) p out r (act r p) → after ≡ output_of (counting sent i n) out (act r p)
+          → x ≡ record_turned (counting sent i n) p out r (act r p) → after
+              ≡ output_of (counting sent i n) out (act r p)
           → t' ≡ set t (place_at ws i) x.after → After x t' after
       unfolding within
       own_turn x t' after ex eo et =
@@ -71,7 +73,8 @@ module _
           let y = with-table room t (place_at ws i) p (act r p) in
           let er : x.done.read ≡ i + k = ap (λ (z : RecordAndReport). z.done.read) ex in
           let ew : x.done.written ≡ n + m = ap (λ (z : RecordAndReport). z.done.written) ex in
-          let el : t' ≡ set t (place_at ws i) (left_of (room, r) c).1 = et ∙ ap (λ (z : RecordAndReport). set t (place_at ws i) z.after) ex in
+          let el : t' ≡ set t (place_at ws i) (left_of (room, r) c).1 = et
+              ∙ ap (λ (z : RecordAndReport). set t (place_at ws i) z.after) ex in
           let long : length t' ≡ whole_table = ap length et ∙ length-set t (place_at ws i) x.after ∙ inv.1 in
           let z = turn step near inside t₀ ws out₀ t out i n x.done.answer k m t' after inv.0 h
           (rw (own ws t i inv.1)
@@ -83,7 +86,8 @@ module _
             holds = eo ∙ rw y.2;
           })) in (
             λ q. let v = z.0 (λ o. q (er ∙ omega (arith, o))) in ((rw (er, ew) v.0, long), omega (arith, er, v.1)),
-            λ q. let v = z.1 (omega (arith, er, q)) in let o : x.done.written ≡ n = omega (arith, ew, v.1) in rw (q, o) v.0,
+            λ q. let v = z.1 (omega (arith, er, q)) in let o : x.done.written ≡ n =
+                omega (arith, ew, v.1) in rw (q, o) v.0,
           )
 
       -- the same from what the code says, which makes the call after the report q, and reads and stores the record at k
@@ -104,4 +108,5 @@ module _
         → DidRun (run (within step) (length out₀, t₀) (cut ws)) out₀ a i n t out
         → let r = run_by step (length out₀) t₀ ws in
         (counting a i n ≡ reported r) × ((t ≡ table_after r) × (out ≡ at_start r.sends out₀))
-    run-told a i n t out l d = rw (eq-eqb (length t₀) whole_table l) (rw (d.answers, d.reads, d.writes), (d.leaves, d.holds))
+    run-told a i n t out l d =
+        rw (eq-eqb (length t₀) whole_table l) (rw (d.answers, d.reads, d.writes), (d.leaves, d.holds))
