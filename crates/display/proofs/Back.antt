@@ -1,6 +1,6 @@
 -- A shown pitch turned back into the whole number that it is times 2 to the 31: the product and the cast lose nothing.
 -- Assumes nothing.
-use Prim.Native.Nat.{ℕ, suc, ◌+◌, ◌*◌, ◌^◌, ◌≤◌, ◌<◌}
+use Prim.Native.Nat.{ℕ, suc, ◌+◌, ◌*◌, ◌^◌, ◌<◌}
 use mathlib.Core.Path.{◌≡◌, refl, sym, ap, ◌∙◌, subst}
 use mathlib.Core.Bool.{true, false, true≢false}
 use native.Mathlib.Nat.{le_of_lt, lt_of_lt_of_le, mul-pos, zero-mul}

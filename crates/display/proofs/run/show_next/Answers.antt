@@ -1,0 +1,82 @@
+-- `display::run::show_next`: a refused packet leaves the desk, a sound one is heard, and its line is written where it
+-- is
+-- another. Assumes nothing.
+use mathlib.Core.Path.{◌≡◌, sym, ap, ◌∙◌}
+use native.Mathlib.Omega.{arith}
+use lib.ListN.{drop, length, length-drop}
+use Rattle.ump.proofs.PacketLaws.{packet-length}
+use Rattle.screen.specs.declared.Screened.{Screened}
+use Rattle.screen.specs.Screen.{goes_on, neither_type, screen}
+use Rattle.stream.specs.Call.{within}
+use Rattle.display.specs.Run.{show}
+use Rattle.display.proofs.ShowLaws.{at-line, at-refused, at_same}
+use Rattle.display.proofs.run.show_next.Goals as goal
+
+pub overflow_add-next : goal.overflow_add-next
+overflow_add-next c =
+    let a = c.args in
+    let s = drop a.past.read a.words.now in
+    record {
+      fits = omega (arith, ap length c.packet_at-packet.ensures, packet-length s, length-drop a.past.read a.words.now);
+    }
+
+pub returns-then-screened-ne-GOES_ON : goal.returns-then-screened-ne-GOES_ON
+unfolding show within
+returns-then-screened-ne-GOES_ON c =
+    let p = c.packet_at-packet in
+    let a = c.args in
+    let z = at-refused a.units a.past a.desk p.result.now a.text.now _ c.screen-screened.ensures
+    c.if-screened-ne-GOES_ON.true in
+    rw (← p.ensures) record {
+      turn = rw c.report_place-done.ensures z.0;
+      text = z.1;
+    }
+
+pub returns-then-is_same_picture : goal.returns-then-is_same_picture
+unfolding show within
+returns-then-is_same_picture c =
+    let goes : c.screen-screened.result.answer ≡ goes_on → (screen neither_type c.packet_at-packet.result.now).answer
+    ≡ goes_on =
+    λ e. sym (ap (λ (y : Screened). y.answer) c.screen-screened.ensures) ∙ e in
+    let p = c.packet_at-packet in
+    let a = c.args in
+    let s = rw c.hear-after.ensures at (sym c.is_same_picture.ensures ∙ c.if-is_same_picture.true) in
+    let z = at_same a.units a.past a.desk p.result.now a.text.now (goes c.if-screened-ne-GOES_ON.false) s in
+    rw (← p.ensures) record {
+      turn = rw (c.hear-after.ensures, c.report-done.ensures) z.0;
+      text = z.1;
+    }
+
+pub returns-then-end-to : goal.returns-then-end-to
+unfolding show within
+returns-then-end-to c =
+    let goes : c.screen-screened.result.answer ≡ goes_on → (screen neither_type c.packet_at-packet.result.now).answer
+    ≡ goes_on =
+    λ e. sym (ap (λ (y : Screened). y.answer) c.screen-screened.ensures) ∙ e in
+    let p = c.packet_at-packet in
+    let a = c.args in
+    let s = rw c.hear-after.ensures at (sym c.is_same_picture.ensures ∙ c.if-is_same_picture.false) in
+    let z = (at-line a.units a.past a.desk p.result.now a.text.now (goes c.if-screened-ne-GOES_ON.false) s _ _
+    (rw c.hear-after.ensures at c.line-end.ensures.place, rw c.hear-after.ensures at c.line-end.ensures.text)).0
+    c.if-end-to.true in
+    rw (← p.ensures) record {
+      turn = rw c.report-done-then-end-to.ensures z.0;
+      text = z.1;
+    }
+
+pub returns : goal.returns
+unfolding show within
+returns c =
+    let goes : c.screen-screened.result.answer ≡ goes_on → (screen neither_type c.packet_at-packet.result.now).answer
+    ≡ goes_on =
+    λ e. sym (ap (λ (y : Screened). y.answer) c.screen-screened.ensures) ∙ e in
+    let p = c.packet_at-packet in
+    let a = c.args in
+    let s = rw c.hear-after.ensures at (sym c.is_same_picture.ensures ∙ c.if-is_same_picture.false) in
+    let z = (at-line a.units a.past a.desk p.result.now a.text.now (goes c.if-screened-ne-GOES_ON.false) s _ _
+    (rw c.hear-after.ensures at c.line-end.ensures.place, rw c.hear-after.ensures at c.line-end.ensures.text)).1
+    c.if-end-to.false in
+    rw (← p.ensures) record {
+      turn = rw (c.hear-after.ensures, c.report-done-2.ensures) z.0;
+      text = z.1;
+    }
