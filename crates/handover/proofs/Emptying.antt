@@ -1,16 +1,12 @@
--- A row of records emptied: as many stay in the table, the row is empty, and every other record is as it was. And what
--- the loop of `empty_from` counts. Assumes nothing.
+-- A row of records emptied: as many stay in the table, the row is empty, and every other record is as it was.
+-- Assumes nothing.
 use Prim.Native.Nat.{ℕ, zero, suc, ◌+◌, ◌-◌, ◌≤◌, ◌<◌, min}
 use mathlib.Core.Path.{◌≡◌, refl, sym, ap, ◌∙◌}
-use mathlib.Core.Bool.{Bool, true, false}
 use mathlib.Core.List.{List, [], ◌∷◌}
-use mathlib.Core.WellFounded.InvImage
-use mathlib.Core.WellFounded.{WellFounded}
 use native.Mathlib.Omega.{arith}
 use lib.Dec.{eqb, leb}
 use lib.ListN.{get_or, length, length-set, set}
 use lib.Seq.{get_or-set_other, set_out}
-use lib.WfN.{lt-wf_rel}
 use borrow.Author.Tests.{eqb-false, eqb-true, leb-false, leb-true}
 use Rattle.ground.proofs.Cases.{by_bool}
 use Rattle.channel.specs.declared.Record.{Record}
@@ -50,6 +46,22 @@ module _ (t : List Record) (k : ℕ) where
       ap (emptied t k) {x = min (suc n) (length t - k)} {y = min n (length t - k)} (omega (arith, h)) ∙ emptied-room n
       ∙ sym (set_out (emptied t k n) (k + n) empty (omega (arith, h, l))))
 
+  -- so a walk from the first place on empties them one after the other
+  pub emptied-start : t ≡ emptied t k (k - k)
+  emptied-start = sym emptied-none ∙ ap (emptied t k) {x = 0} {y = k - k} (omega arith)
+
+  pub emptied-next : (ys : List Record) (i : ℕ) → k ≤ i → ys ≡ emptied t k (i - k) → (r : Record) → r ≡ empty
+      → set ys i r ≡ emptied t k (i + 1 - k)
+  emptied-next ys i h e r f =
+      rw (e, f)
+      (ap (λ (n : ℕ). set (emptied t k (i - k)) n empty) {x = i} {y = k + (i - k)} (omega (arith, h))
+      ∙ emptied-more (i - k) ∙ ap (emptied t k) {x = suc (i - k)} {y = i + 1 - k} (omega (arith, h)))
+
+  pub emptied-end : (ys : List Record) (i c : ℕ) → i ≡ k + min c (length t - k) → ys ≡ emptied t k (i - k)
+      → ys ≡ emptied t k c
+  emptied-end ys i c h e =
+      e ∙ ap (emptied t k) {x = i - k} {y = min c (length t - k)} (omega (arith, h)) ∙ emptied-room c
+
   pub emptied-inside : (n i : ℕ) → k ≤ i → i < k + n → get_or (emptied t k n) i empty ≡ empty
   unfolding emptied
   emptied-inside zero i a b = absurd (omega (arith, a, b))
@@ -65,18 +77,3 @@ module _ (t : List Record) (k : ℕ) where
   emptied-outside (suc n) i h =
       get_or-set_other (emptied t k n) (k + n) i empty empty (λ e. h (omega (arith, e)) (omega (arith, e)))
       ∙ emptied-outside n i (λ a b. h a (omega (arith, b)))
-
--- how many records are emptied so far, of the most that there are
-pub record Turn (most : ℕ) : Type 0 where
-  pub so_far : ℕ
-  pub within : so_far ≤ most
-
-module _ (most : ℕ) where
-  abbrev pub left : Turn most → ℕ
-  left t = most - t.so_far
-
-  abbrev pub Fewer : Turn most → Turn most → Type 0
-  Fewer t s = left t < left s
-
-  pub Fewer-wf : WellFounded Fewer
-  Fewer-wf = InvImage.wf left lt-wf_rel.wf

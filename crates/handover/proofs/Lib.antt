@@ -1,4 +1,2 @@
 pub mod HandoverLaws
 pub mod Emptying
-pub mod Values
-pub mod Calls
