@@ -12,7 +12,8 @@ use Rattle.screen.specs.Screen.{goes_on}
 use Rattle.chains.specs.declared.Chain.{Chain}
 use Rattle.chains.specs.declared.Collected.{Collected}
 use Rattle.chains.specs.Step.{fresh, step_of}
-use Rattle.chains.specs.Collect.{buffer_after, chain_at, chain_of, chains_after, collected, collected_of, piece_of, refusal_of}
+use Rattle.chains.specs.Collect.{buffer_after, chain_at, chain_of, chains_after, collected, collected_of, piece_of}
+use Rattle.chains.specs.Collect.{refusal_of}
 use Rattle.chains.specs.Collect.{share, whole_list, with_part}
 use Rattle.chains.proofs.SortLaws.{same_or_not}
 use Rattle.chains.proofs.CollectLaws.{buffer-piece, buffer-same, chain-piece, chains-same, part_length, report-piece}

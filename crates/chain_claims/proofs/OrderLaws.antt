@@ -13,7 +13,8 @@ use Rattle.ground.proofs.Cases.{by_bool}
 use Rattle.ump.specs.Word.{group_of, message_type}
 use Rattle.ump.specs.Packet.{first, packet, second}
 use Rattle.fields.specs.Check.{bad_place_of, checked_fields, good_fields, good_status}
-use Rattle.stream.specs.Answers.{bad_address, bad_data, bad_status, cut_packet, no_table, out_of_turn, reserved_type, sent}
+use Rattle.stream.specs.Answers.{bad_address, bad_data, bad_status, cut_packet, no_table, out_of_turn, reserved_type}
+use Rattle.stream.specs.Answers.{sent}
 use Rattle.stream.specs.Answers.{taken_in, too_long, too_many_packets}
 use Rattle.stream.specs.Report.{place_told}
 use Rattle.screen.specs.declared.Screened.{Screened}
@@ -21,7 +22,8 @@ use Rattle.screen.specs.Screen.{admitted, answering, goes_on, neither_type, outs
 use Rattle.piece.specs.Piece.{Piece, chain_by, chain_for, exclusive, flex, no_chain, strange_address}
 use Rattle.chains.specs.declared.Chain.{Chain}
 use Rattle.chains.specs.Step.{base_of, begins, finishes, most, strays, verdict, verdict_by}
-use Rattle.chains.specs.Collect.{beside, chain_at, chain_of, collected, collected_of, kept_open, of_chain, piece_of, report_of}
+use Rattle.chains.specs.Collect.{beside, chain_at, chain_of, collected, collected_of, kept_open, of_chain, piece_of}
+use Rattle.chains.specs.Collect.{report_of}
 use Rattle.chains.specs.Collect.{report_with, unlisted, whole_list}
 use Rattle.chains.specs.Collect.{refusal_of}
 use Rattle.chains.specs.Collect.{share, sort_by, sorted}
@@ -72,7 +74,8 @@ before-then p cs =
     (good_fields (checked_fields (first p) (second p))) (not (has_chain (first p))) (strange_address (first p)))
   where
     go : (a b d e h x : Bool)
-        → numbered (case cut_packet a ∷ case reserved_type b ∷ case bad_status d ∷ case bad_data (not e) ∷ case taken_in h
+        → numbered (case cut_packet a ∷ case reserved_type b ∷ case bad_status d ∷ case bad_data (not e)
+        ∷ case taken_in h
         ∷ case bad_address x ∷ cs)
         ≡ cond (eqb (sorting p a b d e h x).answer goes_on) (numbered cs) (sorting p a b d e h x).answer
     go true b d e h x = refl

@@ -1,12 +1,14 @@
 -- What is claimed of chains, over lists of packets (RULES 14; 02 M-106). A call is given the words from its packet's
 -- first on, so a packet is such a list of words.
-use Rattle.std.specs.Prelude.{ℕ, ◌+◌, ◌*◌, ◌≤◌, ◌<◌, ◌≡◌, Bool, cond, ◌⊎◌, List, [], ◌∷◌, ◌++◌, length, take, drop, replicate, eqb, ltb}
+use Rattle.std.specs.Prelude.{ℕ, ◌+◌, ◌*◌, ◌≤◌, ◌<◌, ◌≡◌, Bool, cond, ◌⊎◌, List, [], ◌∷◌, ◌++◌, length, take, drop}
+use Rattle.std.specs.Prelude.{replicate, eqb, ltb}
 use Rattle.stream.specs.Answers.{out_of_turn, sent, taken_in, too_many_packets}
 use Rattle.screen.specs.Screen.{goes_on}
 use Rattle.piece.specs.Piece.{complete, continued, end, payload, start}
 use Rattle.chains.specs.declared.Chain.{Chain}
 use Rattle.chains.specs.Step.{begins, fresh, most, part_of, step_of}
-use Rattle.chains.specs.Collect.{buffer_after, chain_at, chain_of, chains_after, collected_of, part_at, piece_of, refusal_of}
+use Rattle.chains.specs.Collect.{buffer_after, chain_at, chain_of, chains_after, collected_of, part_at, piece_of}
+use Rattle.chains.specs.Collect.{refusal_of}
 use Rattle.chains.specs.Collect.{share, whole_list}
 
 -- The chains and the buffer, as a call leaves them.

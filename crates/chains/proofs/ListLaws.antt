@@ -70,8 +70,8 @@ module _ (cs : List Chain) (b ws : List ℕ) (at : ℕ) where
   own-chains = go (same_or_not (refusal_of s) goes_on)
     where
       go : (refusal_of s ≡ goes_on) ⊎ (refusal_of s ≡ goes_on → ⊥)
-          → set cs slot (chain_with old (share b) s) ≡ set cs (chain_of s) (chain_with (chain_at (chain_of s) cs) (share b)
-          s)
+          → set cs slot (chain_with old (share b) s)
+          ≡ set cs (chain_of s) (chain_with (chain_at (chain_of s) cs) (share b) s)
       go (inl e) = ap (λ (k : ℕ). set cs k (chain_with (get_or cs k fresh) (share b) s)) (own-slot (inl e))
       go (inr n) =
           ap (set cs slot) (chain_same old (share b) s n) ∙ set-get_or cs slot fresh ∙ sym (chains-same cs b s n)

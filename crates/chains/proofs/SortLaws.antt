@@ -36,11 +36,13 @@ screen-no-address p =
     no a e = eqb-false a bad_address e
 
 -- a packet that a chain is asked about is of a chain
-pub chain-low : (p : List ℕ) → ((sorted p).answer ≡ goes_on) ⊎ ((sorted p).answer ≡ bad_address) → chain_by (first p) < 32
+pub chain-low : (p : List ℕ) → ((sorted p).answer ≡ goes_on) ⊎ ((sorted p).answer ≡ bad_address)
+    → chain_by (first p) < 32
 unfolding sort_by of_chain
 chain-low p = go (eqb (screen neither_type p).answer goes_on) refl (eqb (chain_by (first p)) no_chain) refl
   where
-    go : (a : Bool) → eqb (screen neither_type p).answer goes_on ≡ a → (b : Bool) → eqb (chain_by (first p)) no_chain ≡ b
+    go : (a : Bool) → eqb (screen neither_type p).answer goes_on ≡ a
+        → (b : Bool) → eqb (chain_by (first p)) no_chain ≡ b
         → ((cond a (answering (cond b taken_in (cond (strange_address (first p)) bad_address goes_on)))
         (screen neither_type p)).answer ≡ goes_on)
         ⊎ ((cond a (answering (cond b taken_in (cond (strange_address (first p)) bad_address goes_on)))

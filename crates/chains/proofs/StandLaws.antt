@@ -16,7 +16,8 @@ use Rattle.fields.specs.Check.{checked_fields, good_fields, good_status, good_un
 use Rattle.ump.specs.Packet.{first, packet, second, size}
 use Rattle.ump.proofs.PacketLaws.{at_none, packet-end, packet-short, packet-whole-at, size-range}
 use Rattle.screen.specs.Screen.{goes_on, neither_type, screen, screen_by}
-use Rattle.piece.specs.Piece.{exclusive, exclusive_bytes, exclusive_piece, flex, flex_bytes, flex_piece, piece_for, slot_by}
+use Rattle.piece.specs.Piece.{exclusive, exclusive_bytes, exclusive_piece, flex, flex_bytes, flex_piece, piece_for}
+use Rattle.piece.specs.Piece.{slot_by}
 use Rattle.piece.specs.Piece.{strange_address}
 use Rattle.piece.proofs.PieceLaws.{slot-chain}
 use Rattle.chains.specs.Collect.{chain_of, piece_of, refusal_of, sort_by, sorted}
@@ -48,8 +49,8 @@ module _ (ws : List ℕ) (at : ℕ) where
     word_of k h = rw (w.is, get_or-take, get_or-drop)
 
     pub first_of : first (packet (drop at ws)) ≡ get_or ws at 0
-    first_of = word_of 0 (omega (arith, (size-range (get_or ws at 0)).0)) ∙ ap (λ (i : ℕ). get_or ws i 0) {x = at + 0} {y =
-        at} (omega arith)
+    first_of = word_of 0 (omega (arith, (size-range (get_or ws at 0)).0))
+        ∙ ap (λ (i : ℕ). get_or ws i 0) {x = at + 0} {y = at} (omega arith)
 
 -- the sizes of the types that are asked
 pub size-two : (w : ℕ) → (message_type w ≡ exclusive) ⊎ (message_type w ≡ voice2) → size w ≡ 2
@@ -99,7 +100,8 @@ module _ (ws : List ℕ) (at : ℕ) (some : length (packet (drop at ws)) ≡ 0 �
   voice1-at e = rw (← first_of ws at there) (good-voice1 p some (typed voice1 e))
 
   pub voice2-at : message_type v ≡ voice2
-      → (good_status v && good_fields (checked_fields v (get_or ws (at + 1) 0))) ≡ eqb (screen neither_type p).answer goes_on
+      → (good_status v && good_fields (checked_fields v (get_or ws (at + 1) 0)))
+      ≡ eqb (screen neither_type p).answer goes_on
   voice2-at e =
       rw (← first_of ws at there, ← second_at (omega (arith, size-two v (inr e)))) (good-voice2 p some (typed voice2 e))
 

@@ -169,7 +169,8 @@ module _ (c : Chain) (b ws : List ℕ) (at : ℕ) (asked : refusal_of (drop at w
         rw (report-piece c (share b) (drop at ws) asked, stepped, e, f, slot_at ws at asked)
 
 -- the buffer after it
-pub buffer-asked : (c : Chain) (b ws : List ℕ) (at k : ℕ) → refusal_of (drop at ws) ≡ goes_on → k ≡ slot_by (get_or ws at 0)
+pub buffer-asked : (c : Chain) (b ws : List ℕ) (at k : ℕ) → refusal_of (drop at ws) ≡ goes_on
+    → k ≡ slot_by (get_or ws at 0)
     → with_part k (part_of c (part_at k b) (piece_at ws at)) b ≡ buffer_with c b (drop at ws)
 buffer-asked c b ws at k e f =
     rw (f, slot_at ws at e, ← piece-at ws at e) (sym (buffer-piece c b (drop at ws) e))

@@ -1,6 +1,7 @@
 -- What the functions promise that see one chain by value, beside the definitions of a call and a run: a piece by its
 -- head and by the words from a place on, a call with one chain, and a turn of a run.
-use Rattle.std.specs.Prelude.{ℕ, ◌+◌, ◌*◌, ◌≤◌, ◌≡◌, Bool, false, cond, not, ◌&&◌, ◌||◌, List, [], drop, get_or, length, eqb, ltb}
+use Rattle.std.specs.Prelude.{ℕ, ◌+◌, ◌*◌, ◌≤◌, ◌≡◌, Bool, false, cond, not, ◌&&◌, ◌||◌, List, [], drop, get_or, length}
+use Rattle.std.specs.Prelude.{eqb, ltb}
 use Rattle.ump.specs.Word.{message_type}
 use Rattle.stream.specs.Answers.{cut_packet, sent, taken_in}
 use Rattle.screen.specs.Screen.{answering, goes_on}
@@ -23,7 +24,8 @@ bare x = record { format = x.format; shared = x.shared; adds = x.adds; count = x
 -- the piece at a place of the words, where those of its packet stand
 abbrev pub piece_at : List ℕ → ℕ → Piece
 piece_at ws at =
-    piece_for (message_type (get_or ws at 0)) (get_or ws at 0) (get_or ws (at + 1) 0) (get_or ws (at + 2) 0) (get_or ws (at + 3) 0)
+    piece_for (message_type (get_or ws at 0)) (get_or ws at 0) (get_or ws (at + 1) 0) (get_or ws (at + 2) 0)
+    (get_or ws (at + 3) 0)
 
 pub record Standing (ws : List ℕ) (at : ℕ) : Type 0 where
   pub two : at + 2 ≤ length ws

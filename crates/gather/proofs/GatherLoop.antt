@@ -56,7 +56,8 @@ module _ (h₀ : Held) (ws out₀ : List ℕ) where
     abbrev c : Call (ℕ × Held)
     c = gather t (drop i ws)
 
-    pub one_more : (r : Done) (h' : Held) (after : List ℕ) → r ≡ gathered_after (counting sent i n) (packet (drop i ws)) c
+    pub one_more : (r : Done) (h' : Held) (after : List ℕ)
+        → r ≡ gathered_after (counting sent i n) (packet (drop i ws)) c
         → h' ≡ (left_of t c).1 → after ≡ written n (sent_of c) out
         → ((r.read ≡ i → ⊥) → Gathers h' after r.read r.written × (i < r.read))
         × (r.read ≡ i → Done· r.answer i n h' after)
@@ -69,7 +70,8 @@ module _ (h₀ : Held) (ws out₀ : List ℕ) where
         let ew : r.written ≡ n + m = ap (λ (x : Done). x.written) e in
         let ea : r.answer ≡ answer_of c = ap (λ (x : Done). x.answer) e in
         let y = fit_same t p c (fits t (drop i ws)) in
-        let z = turn gather gather-near gather-inside (length out₀, h₀) ws out₀ t out i n r.answer k m (left_of t c) after inv l
+        let z = turn gather gather-near gather-inside (length out₀, h₀) ws out₀ t out i n r.answer k m
+        (left_of t c) after inv l
         (record {
           answers = ea ∙ sym y.0;
           reads = sym y.1;

@@ -1,6 +1,8 @@
 -- Counting: one more of a sort is a longer list of them, and no count is above the number of calls. And the loop that
 -- counts: the sorts of the packets before a place are counted, and those from there on are left. Assumes nothing.
-use Rattle.std.proofs.Common.{◌≡◌, ℕ, zero, suc, ◌+◌, ◌%◌, ◌^◌, ◌<◌, ◌≤◌, cond, eqb, List, [], ◌∷◌, ◌++◌, map, length, get_or, take, drop, set, replicate, sym, refl, ap, ◌∙◌, subst, append_assoc, append-nil, add-zero, add_assoc, zero-add, arith, length-append, drop-cons, eq-eqb, ne_eqb, le-leb}
+use Rattle.std.proofs.Common.{◌≡◌, ℕ, zero, suc, ◌+◌, ◌%◌, ◌^◌, ◌<◌, ◌≤◌, cond, eqb, List, [], ◌∷◌, ◌++◌, map, length}
+use Rattle.std.proofs.Common.{get_or, take, drop, set, replicate, sym, refl, ap, ◌∙◌, subst, append_assoc, append-nil}
+use Rattle.std.proofs.Common.{add-zero, add_assoc, zero-add, arith, length-append, drop-cons, eq-eqb, ne_eqb, le-leb}
 use Rattle.ground.proofs.Cases.{choose}
 use Rattle.ump.specs.Word.{voice2}
 use Rattle.ump.specs.Packet.{cut, packet, size}
@@ -21,13 +23,15 @@ use Rattle.tally.specs.Tally.{all_sorts, counted, from, sort_by, sort_down, sort
 times-after : (n : ℕ) (xs : List ℕ) (a : ℕ) → times n (xs ++ (a ∷ [])) ≡ times n xs + cond (eqb a n) 1 0
 unfolding times
 times-after n [] a = omega arith
-times-after n (x ∷ xs) a = rw (times-after n xs a) (sym (add_assoc (cond (eqb x n) 1 0) (times n xs) (cond (eqb a n) 1 0)))
+times-after n (x ∷ xs) a = rw (times-after n xs a)
+    (sym (add_assoc (cond (eqb x n) 1 0) (times n xs) (cond (eqb a n) 1 0)))
 
 times-most : (n : ℕ) (xs : List ℕ) → times n xs ≤ length xs
 unfolding times
 times-most n [] = omega arith
 times-most n (x ∷ xs) =
-    choose (λ (k : ℕ). k + times n xs ≤ length (x ∷ xs)) (eqb x n) (λ _. omega (arith, times-most n xs)) (λ _. omega (arith, times-most n xs))
+    choose (λ (k : ℕ). k + times n xs ≤ length (x ∷ xs)) (eqb x n) (λ _. omega (arith, times-most n xs))
+    (λ _. omega (arith, times-most n xs))
 
 -- no count is above the number of calls
 map-most : (f : ℕ → ℕ) (b : ℕ) → ((n : ℕ) → f n ≤ b) → (l : List ℕ) (j : ℕ) → get_or (map f l) j 0 ≤ b
@@ -46,12 +50,14 @@ past f a k zero h = refl
 past f a k (suc n) h = rw (ne_eqb a k (λ e. omega (arith, h, e)), add-zero (f k), past f a (suc k) n (omega arith))
 
 one_more : (f : ℕ → ℕ) (i k n : ℕ)
-    → set (map f (from k n)) i (get_or (map f (from k n)) i 0 + 1) ≡ map (λ (m : ℕ). f m + cond (eqb (k + i) m) 1 0) (from k n)
+    → set (map f (from k n)) i (get_or (map f (from k n)) i 0 + 1)
+    ≡ map (λ (m : ℕ). f m + cond (eqb (k + i) m) 1 0) (from k n)
 unfolding from
 one_more f zero k zero = refl
 one_more f (suc i) k zero = refl
 one_more f zero k (suc n) =
-    subst (λ (a : ℕ). (f k + 1) ∷ map f (from (suc k) n) ≡ map (λ (m : ℕ). f m + cond (eqb a m) 1 0) (k ∷ from (suc k) n))
+    subst (λ (a : ℕ). (f k + 1) ∷ map f (from (suc k) n)
+    ≡ map (λ (m : ℕ). f m + cond (eqb a m) 1 0) (k ∷ from (suc k) n))
     (sym (add-zero k)) (rw (eq-eqb k k refl, past f k (suc k) n (omega arith)))
 one_more f (suc i) k (suc n) =
     let e : suc k + i ≡ k + suc i = omega arith in
@@ -63,7 +69,8 @@ tally-more : (xs : List ℕ) (a : ℕ) → set (tally xs) a (get_or (tally xs) a
 unfolding tally
 tally-more xs a =
     simp times-after
-    (subst (λ (b : ℕ). set (tally xs) a (get_or (tally xs) a 0 + 1) ≡ map (λ (m : ℕ). times m xs + cond (eqb b m) 1 0) (from 0 all_sorts))
+    (subst (λ (b : ℕ). set (tally xs) a (get_or (tally xs) a 0 + 1)
+    ≡ map (λ (m : ℕ). times m xs + cond (eqb b m) 1 0) (from 0 all_sorts))
     (zero-add a) (one_more (λ (n : ℕ). times n xs) a 0 all_sorts))
 
 -- before the first call nothing was counted, and a count that is not full has one more after it
@@ -80,7 +87,8 @@ tally-counted xs a h =
 sort-near : (way : Way) (w : ℕ) (s : List ℕ) → sort_by way (take (size w) (w ∷ s)) ≡ sort_by way (w ∷ s)
 unfolding sort_by call_down_by
 sort-near Down w s =
-    ap (λ (p : List ℕ). sort_of (answer_of (packet_down p)) (place_told (answer_of (packet_down p)) p)) (packet-near w s)
+    ap (λ (p : List ℕ). sort_of (answer_of (packet_down p)) (place_told (answer_of (packet_down p)) p))
+    (packet-near w s)
 sort-near (Out g) w s = ap (λ (p : List ℕ). sort_of (screen_out g p).answer (screen_out g p).place) (packet-near w s)
 sort-near Up w s = ap (λ (p : List ℕ). sort_of (screen voice2 p).answer (screen voice2 p).place) (packet-near w s)
 
@@ -96,7 +104,8 @@ unfolding call_down_by
 down-sort ws i r f =
     let p = packet (drop i ws) in
     ap (λ (x : Done). sort_of x.answer x.place) f
-    ∙ ap (λ (a : ℕ). sort_of a (place_told a p)) (four-fit (packet_down p) (few-down open_rule p (packet-four (drop i ws))))
+    ∙ ap (λ (a : ℕ). sort_of a (place_told a p)) (four-fit (packet_down p)
+    (few-down open_rule p (packet-four (drop i ws))))
 
 module _ (way : Way) (ws : List ℕ) where
   abbrev rest : ℕ → List ℕ

@@ -11,19 +11,22 @@ use Rattle.gather.proofs.gather_one.Goals as goal
 pub returns-then-is_full-clause-report : goal.returns-then-is_full-clause-report
 returns-then-is_full-clause-report c =
     let a = c.args in
-    let z = at-full (held a.chains a.counts a.buffer.now) (drop a.past.read a.words.now) a.text.now a.past (sym c.is_full.ensures ∙ c.if-is_full.true) in
+    let z = at-full (held a.chains a.counts a.buffer.now) (drop a.past.read a.words.now) a.text.now a.past
+    (sym c.is_full.ensures ∙ c.if-is_full.true) in
     c.report.ensures ∙ z.0
 
 pub returns-then-is_full-clause-held : goal.returns-then-is_full-clause-held
 returns-then-is_full-clause-held c =
     let a = c.args in
-    let z = at-full (held a.chains a.counts a.buffer.now) (drop a.past.read a.words.now) a.text.now a.past (sym c.is_full.ensures ∙ c.if-is_full.true) in
+    let z = at-full (held a.chains a.counts a.buffer.now) (drop a.past.read a.words.now) a.text.now a.past
+    (sym c.is_full.ensures ∙ c.if-is_full.true) in
     z.1
 
 pub returns-then-is_full-clause-text : goal.returns-then-is_full-clause-text
 returns-then-is_full-clause-text c =
     let a = c.args in
-    let z = at-full (held a.chains a.counts a.buffer.now) (drop a.past.read a.words.now) a.text.now a.past (sym c.is_full.ensures ∙ c.if-is_full.true) in
+    let z = at-full (held a.chains a.counts a.buffer.now) (drop a.past.read a.words.now) a.text.now a.past
+    (sym c.is_full.ensures ∙ c.if-is_full.true) in
     z.2
 
 pub returns-then-one-eq0-clause-report : goal.returns-then-one-eq0-clause-report
@@ -82,7 +85,8 @@ returns-clause-report c =
     let eb = rw (rest_part a.past.read a.words.now) at c.collect-all.ensures.buffer in
     let m = c.one_more.ensures ∙ ap (counted a.counts) c.sort_of.ensures in
     let p = c.put_line-end.ensures in
-    let z = at_one (held a.chains a.counts a.buffer.now) (drop a.past.read a.words.now) a.text.now a.past _ _ _ _ _ _ _ er es eb
+    let z = at_one (held a.chains a.counts a.buffer.now)
+    (drop a.past.read a.words.now) a.text.now a.past _ _ _ _ _ _ _ er es eb
     (sym c.is_full.ensures ∙ c.if-is_full.false) c.if-one-eq0.false (p.place, p.text) m c.report-2.ensures in
     z.0
 
@@ -94,7 +98,8 @@ returns-clause-held c =
     let eb = rw (rest_part a.past.read a.words.now) at c.collect-all.ensures.buffer in
     let m = c.one_more.ensures ∙ ap (counted a.counts) c.sort_of.ensures in
     let p = c.put_line-end.ensures in
-    let z = at_one (held a.chains a.counts a.buffer.now) (drop a.past.read a.words.now) a.text.now a.past _ _ _ _ _ _ _ er es eb
+    let z = at_one (held a.chains a.counts a.buffer.now)
+    (drop a.past.read a.words.now) a.text.now a.past _ _ _ _ _ _ _ er es eb
     (sym c.is_full.ensures ∙ c.if-is_full.false) c.if-one-eq0.false (p.place, p.text) m c.report-2.ensures in
     z.1
 
@@ -106,6 +111,7 @@ returns-clause-text c =
     let eb = rw (rest_part a.past.read a.words.now) at c.collect-all.ensures.buffer in
     let m = c.one_more.ensures ∙ ap (counted a.counts) c.sort_of.ensures in
     let p = c.put_line-end.ensures in
-    let z = at_one (held a.chains a.counts a.buffer.now) (drop a.past.read a.words.now) a.text.now a.past _ _ _ _ _ _ _ er es eb
+    let z = at_one (held a.chains a.counts a.buffer.now)
+    (drop a.past.read a.words.now) a.text.now a.past _ _ _ _ _ _ _ er es eb
     (sym c.is_full.ensures ∙ c.if-is_full.false) c.if-one-eq0.false (p.place, p.text) m c.report-2.ensures in
     z.2

@@ -1,5 +1,5 @@
--- `gather::gather_some` meets its contract: one more call keeps what was done the start of the whole run, and a call that
--- is refused, like the end of the words, ends it.
+-- `gather::gather_some` meets its contract: one more call keeps what was done the start of the whole run, and a call
+-- that is refused, like the end of the words, ends it.
 use mathlib.Core.Path.{◌∙◌}
 use Rattle.gather.specs.Gather.{held, held_in}
 use Rattle.gather.proofs.GatherLoop.{finished, one_more}

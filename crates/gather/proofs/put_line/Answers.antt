@@ -1,5 +1,5 @@
--- `gather::put_line`: a finished chain has the line of its bytes, a dropped one that of its answer, and no other call has
--- one.
+-- `gather::put_line`: a finished chain has the line of its bytes, a dropped one that of its answer, and no other call
+-- has one.
 use Rattle.text.proofs.LineLaws.{none-put}
 use Rattle.gather.proofs.LineLaws.{dropped_line_lem, finished-line, no_line}
 use Rattle.gather.proofs.GatherLaws.{rest_part}
