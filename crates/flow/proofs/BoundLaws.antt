@@ -1,5 +1,5 @@
 -- A run reads no more words than it is given, and sends no more than its output holds. Assumes nothing.
-use Prim.Native.Nat.{ℕ, ◌-◌, ◌≤◌}
+use Prim.Native.Nat.{ℕ, ◌≤◌}
 use mathlib.Core.Path.{◌≡◌, ap}
 use mathlib.Core.List.{List}
 use native.Mathlib.Omega.{arith}
@@ -27,7 +27,7 @@ unfolding run_up
 up-reads room t ws d =
     reads-most (run_up room t ws) (length ws) d
     (choose (λ (r : Ran (ℕ × List Record)). r.read ≤ length ws) (eqb (length t) whole_table) (λ _. words-read _ _ ws)
-        (λ _. omega arith))
+    (λ _. omega arith))
 
 lines-read : (room : ℕ) (t : List Record) (ws : List ℕ) (d : Done) → d ≡ reported (run_lines room t ws)
     → d.read ≤ length ws
@@ -35,7 +35,7 @@ unfolding run_lines
 lines-read room t ws d =
     reads-most (run_lines room t ws) (length ws) d
     (choose (λ (r : Ran (ℕ × List Record)). r.read ≤ length ws) (eqb (length t) whole_table) (λ _. words-read _ _ ws)
-        (λ _. omega arith))
+    (λ _. omega arith))
 
 pub down-reads : (room : ℕ) (ws : List ℕ) (d : Done) → d ≡ reported (run_down room ws) → d.read ≤ length ws
 unfolding run_down_by

@@ -95,7 +95,7 @@ module _ (d : Done) (p text : List ℕ) (r : Record) (x : RecordAndReport) (four
       let w = went-four a ws v f e in
       let n : d.read + length p - d.read ≡ length p = omega arith in
       rw w.0 (go (leb (length line) room) refl
-          (rw (w.0, w.1, take_at ws (drop (length ws) four₀) (length ws) refl, n) at l))
+      (rw (w.0, w.1, take_at ws (drop (length ws) four₀) (length ws) refl, n) at l))
     where
       line : List ℕ
       line = line_of a (length p) (place_told a p) ws
@@ -110,7 +110,7 @@ module _ (d : Done) (p text : List ℕ) (r : Record) (x : RecordAndReport) (four
           → (end ≡ cond b (to + length line) to) × (text' ≡ with_row text to line)
           → (end ≡ to → Lists (went a ws v) (record { after = r; done = counting no_room d.read to }) text')
           × ((end ≡ to → ⊥) → Lists (went a ws v)
-              (record { after = v; done = placing a (place_told a p) (d.read + length p) end }) text')
+          (record { after = v; done = placing a (place_told a p) (d.read + length p) end }) text')
       go true b m =
           let h = leb-true (length line) room b in
           let q = line-length a (length p) (place_told a p) ws in
@@ -169,7 +169,7 @@ listed-stored p t k (stopped a) = refl
 
 pub up-own : (ws : List ℕ) (t : List Record) (i : ℕ) → length t ≡ whole_table
     → table_up t (drop i ws)
-        ≡ stored t (place_at ws i) (packet_up (get_or t (place_at ws i) empty) (packet (drop i ws)))
+    ≡ stored t (place_at ws i) (packet_up (get_or t (place_at ws i) empty) (packet (drop i ws)))
 unfolding call_by
 up-own ws t i l = table_at open_rule false ws t i l
 

@@ -1,7 +1,7 @@
 -- A loop over a table by value, for every act of a packet with its own record: one more call, the record after it in
 -- its place, and what that makes of the run so far. Assumes nothing.
 use Prim.Native.Nat.{ℕ, ◌+◌, ◌-◌, ◌<◌}
-use mathlib.Core.Path.{◌≡◌, refl, sym, ap, ◌∙◌, subst}
+use mathlib.Core.Path.{◌≡◌, sym, ap, ◌∙◌, subst}
 use mathlib.Core.List.{List, ◌∷◌, map}
 use native.Mathlib.Omega.{arith}
 use lib.ListN.{drop, get_or, length, length-map, length-set, set, take}
@@ -60,11 +60,11 @@ module _
           ((x.done.read ≡ i → ⊥) → Ups t' after x.done.read x.done.written × (i < x.done.read))
           × (x.done.read ≡ i
           → DidRun (run (within step) (length out₀, t₀)
-              (cut ws)) out₀ x.done.answer x.done.read x.done.written t' after)
+          (cut ws)) out₀ x.done.answer x.done.read x.done.written t' after)
 
       own_turn : (x : RecordAndReport) (t' : List Record) (after : List ℕ)
           → x ≡ record_turned (counting sent i n) p out r (act r p) → after
-              ≡ output_of (counting sent i n) out (act r p)
+          ≡ output_of (counting sent i n) out (act r p)
           → t' ≡ set t (place_at ws i) x.after → After x t' after
       unfolding within
       own_turn x t' after ex eo et =
@@ -74,7 +74,7 @@ module _
           let er : x.done.read ≡ i + k = ap (λ (z : RecordAndReport). z.done.read) ex in
           let ew : x.done.written ≡ n + m = ap (λ (z : RecordAndReport). z.done.written) ex in
           let el : t' ≡ set t (place_at ws i) (left_of (room, r) c).1 = et
-              ∙ ap (λ (z : RecordAndReport). set t (place_at ws i) z.after) ex in
+          ∙ ap (λ (z : RecordAndReport). set t (place_at ws i) z.after) ex in
           let long : length t' ≡ whole_table = ap length et ∙ length-set t (place_at ws i) x.after ∙ inv.1 in
           let z = turn step near inside t₀ ws out₀ t out i n x.done.answer k m t' after inv.0 h
           (rw (own ws t i inv.1)

@@ -10,7 +10,8 @@ use Rattle.flow.proofs.lamps.panel.Given as goal
 abbrev pub invariant-loop-i : goal.invariant-loop-i
 invariant-loop-i l =
     (l.i ≤ whole_table) × (length l.text ≡ length l.initial.text) × (length l.records ≡ whole_table)
-    × (rows_put l.initial.text 0 (panel_lines l.records) ≡ rows_put l.text l.written (lines_from l.i (drop l.i l.records)))
+    × (rows_put l.initial.text 0 (panel_lines l.records)
+    ≡ rows_put l.text l.written (lines_from l.i (drop l.i l.records)))
 
 abbrev pub decreases-loop-i : goal.decreases-loop-i
 decreases-loop-i l = whole_table - l.i
