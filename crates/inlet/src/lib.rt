@@ -19,7 +19,7 @@ use stream::{CUT, NO_ROOM, NOT_SOUND, OUT_OF_RANGE, SENT};
 
 // What an import answers, the bytes that it read, the words that it wrote, and the cable after it.
 #[repr(C)]
-#[derive(Drop)]
+#[derive(Clone, Copy)]
 pub struct Imported {
     pub answer: u32,
     pub read: usize,
@@ -28,7 +28,7 @@ pub struct Imported {
 }
 
 // The same of one call of a run.
-#[derive(Drop)]
+#[derive(Clone, Copy)]
 struct Taken {
     answer: u32,
     read: usize,
