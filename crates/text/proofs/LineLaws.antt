@@ -2,15 +2,14 @@
 use Prim.Native.Nat.{ℕ, zero, suc, ◌+◌, ◌*◌, ◌/◌, ◌%◌, ◌-◌, ◌^◌, ◌≤◌, ◌<◌}
 use mathlib.Core.Path.{◌≡◌, refl, sym, ap, ◌∙◌}
 use mathlib.Core.Bool.{Bool, true, false, cond}
-use mathlib.Core.Logic.{◌↔◌}
 use mathlib.Core.List.{List, [], ◌∷◌, ◌++◌, append_assoc, append-nil}
 use native.Mathlib.Omega.{arith}
-use native.Mathlib.Nat.{div-div-eq-div-mul, div-one, le-div_iff_mul-le, mul_comm, mul-suc, mul-zero, pow-suc, pow-zero}
+use native.Mathlib.Nat.{div-div-eq-div-mul, div-one, mul-suc, mul-zero, pow-suc, pow-zero}
 use native.Mathlib.Numerals.{add-one}
 use lib.Dec.{eqb, leb, ltb}
 use lib.ListN.{length, length-append, get_or, set, take}
 use lib.Seq.{length-take-le, sets, take-suc}
-use borrow.Author.Tests.{eqb-false, le-leb, le-ltb, leb-false, leb-true, lt-leb, lt-ltb, ltb-false, ne_eqb}
+use borrow.Author.Tests.{eqb-false, le-leb, le-ltb, lt-ltb, ltb-false, ne_eqb}
 use Rattle.text.specs.Lines.{decimal, digits, fields_of, glyph, hex_fields, line_of, number_then, place_after, place_field}
 use Rattle.text.specs.Lines.{places, places_in, with_row}
 use Rattle.ground.proofs.Cases.{by_bool}
@@ -99,23 +98,6 @@ rest-on n b count i p q =
     let e : count - (i - 1) ≡ suc (count - i) = omega arith in
     rw (e, pow-suc b (count - i)) (div-div-eq-div-mul n (b ^ (count - i)) b)
 
--- as many as the room after the head has so many bytes for each
-pub room_for : (count head room each : ℕ) → 0 < each → head ≤ room
-    → leb count ((room - head) / each) ≡ leb (head + each * count) room
-room_for count head room each p h = go (leb count ((room - head) / each)) refl
-  where
-    all : (count ≤ (room - head) / each) ↔ (count * each ≤ room - head)
-    all = le-div_iff_mul-le p
-
-    go : (b : Bool) → leb count ((room - head) / each) ≡ b → b ≡ leb (head + each * count) room
-    go true e =
-        let q = all.0 (leb-true count ((room - head) / each) e) in
-        sym (le-leb (head + each * count) room (omega (arith, q, mul_comm count each)))
-    go false e =
-        let n : count * each ≤ room - head → ⊥ =
-        λ q. omega (arith, all.1 q, leb-false count ((room - head) / each) e) in
-        sym (lt-leb (head + each * count) room (omega (arith, n, mul_comm count each)))
-
 pub fields-length : (k : ℕ) (ws : List ℕ) → length (fields_of k ws) ≡ suc k * length ws
 unfolding fields_of
 fields-length k [] = sym (mul-zero (suc k))
@@ -151,12 +133,7 @@ pub place-length : (place : ℕ) → (place ≡ 0 → ⊥) → length (place_fie
 unfolding place_field
 place-length place n = rw (ne_eqb place 0 n) (omega (arith, digits-length 10 (places place) place))
 
--- by the number of its bytes: none, or a space and the digits
-pub place_none : (place : ℕ) → length (place_field place) ≡ 0 → place_field place ≡ []
-unfolding place_field
-place_none place h =
-    by_bool (eqb place 0) (λ e. rw e) (λ e. absurd (omega (arith, h, place-length place (eqb-false place 0 e))))
-
+-- by the number of its bytes: a space and the digits
 pub place-some : (place bytes : ℕ) → bytes ≡ length (place_field place) → (bytes ≡ 0 → ⊥)
     → place_field place ≡ 32 ∷ digits 10 (bytes - 1) place
 unfolding place_field

@@ -4,7 +4,6 @@ use mathlib.Core.Path.{◌≡◌, refl, sym, ◌∙◌}
 use mathlib.Core.Bool.{Bool, true, false}
 use mathlib.Core.List.{List, [], ◌∷◌}
 use native.Mathlib.Omega.{arith}
-use native.Mathlib.Nat.{add-zero}
 use native.Mathlib.Numerals.{add-one}
 use lib.Dec.{leb, ltb}
 use lib.ListN.{get_or, length, set, take}
@@ -30,10 +29,6 @@ places-some (suc f) n = choose (λ (k : ℕ). 0 < k) (ltb n 10) (λ _. omega ari
 -- what a row makes of a buffer
 abbrev pub Put : List ℕ → ℕ → List ℕ → ℕ → List ℕ → Type 0
 Put l to row end after = (end ≡ place_after l to row) × (after ≡ with_row l to row)
-
-pub no_row : (l : List ℕ) (to : ℕ) (row : List ℕ) → length row ≡ 0 → Put l to row to l
-no_row l to [] e = rw (le-leb 0 (length l - to) (omega arith)) (sym (add-zero to), refl)
-no_row l to (x ∷ row) e = absurd (omega (arith, e))
 
 module _ (l : List ℕ) (to : ℕ) (row : List ℕ) where
   pub row_fits : to + length row ≤ length l → Put l to row (to + length row) (sets l to row)
