@@ -43,7 +43,8 @@ module _ (g : ℕ) (s₀ : Cable) (a : List ℕ) (room₀ : ℕ) where
     -- a call that has no room ends it
     stop : room < length c.sends → counts ≡ tally whole
     unfolding answers_in pick
-    stop t = v.are ∙ ap tally (sym (v.all ∙ rw (at_byte g a s i h, lt-leb (length c.sends) room t, append-nil v.before)))
+    stop t = v.are ∙ ap tally
+        (sym (v.all ∙ rw (at_byte g a s i h, lt-leb (length c.sends) room t, append-nil v.before)))
 
     -- and any other is counted
     more : length c.sends ≤ room → length a < 2 ^ 63

@@ -1,5 +1,5 @@
--- The bytes of some words fit in their text, and the words of some bytes in theirs; one channel's packets are no more than the words, and fit in their output.
--- Assumes nothing.
+-- The bytes of some words fit in their text, and the words of some bytes in theirs; one channel's packets are no more
+-- than the words, and fit in their output. Assumes nothing.
 use Rattle.std.proofs.Common.{◌≡◌, ℕ, ◌*◌, ◌/◌, ◌≤◌, List, length, take, arith, length-take}
 use Rattle.ground.specs.Store.{at_start}
 use Rattle.ground.proofs.Cases.{choose}
@@ -16,7 +16,8 @@ use Rattle.flow.proofs.BoundLaws.{reads-most, writes-most}
 pub bytes_most : (n : ℕ) (ws text : List ℕ) → n ≡ length (bytes_into text ws) → n ≤ length text
 bytes_most n ws text e = omega (arith, bytes-length (take (length text / 4) ws), length-take (length text / 4) ws)
 
-pub words-most : (n : ℕ) (s buffer : List ℕ) → n ≡ length (words_into buffer s) → (n ≤ length buffer) × (4 * n ≤ length s)
+pub words-most : (n : ℕ) (s buffer : List ℕ) → n ≡ length (words_into buffer s)
+    → (n ≤ length buffer) × (4 * n ≤ length s)
 words-most n s buffer e =
     let p = length-take (length buffer) (words_of s) in
     let q = words-length s in

@@ -1,0 +1,49 @@
+-- `cableflow::counts_in` meets its contract: after each call it is over, or the answer is counted and less is left to do.
+-- Assumes nothing.
+use Prim.Native.Nat.{◌^◌, ◌<◌}
+use native.Mathlib.Omega.{arith}
+use lib.ListN.{length}
+use Rattle.cableflow.proofs.CountLaws.{finish, start, turn}
+use Rattle.cableflow.proofs.counts_in.Goals as goal
+
+pub loop-at-init : goal.loop-at-init
+loop-at-init c = start _ _ _ _
+
+pub returns-then-left-heard : goal.returns-then-left-heard
+returns-then-left-heard c =
+    let l = c.loop-at in
+    let a = c.args in
+    (turn a.group a.cable a.bytes.now a.room l.counts l.state l.at l.left l.invariant
+    c.loop-at-test.true c.hear-heard.result c.hear-heard.ensures).0 c.if-left-heard.true
+
+pub overflow_add-at : goal.overflow_add-at
+overflow_add-at c =
+    let l = c.loop-at in
+    let a = c.args in
+    let fits : length a.bytes.now < 2 ^ 63 = omega (arith, c.well_formed) in
+    let z = (turn a.group a.cable a.bytes.now a.room l.counts l.state l.at l.left l.invariant
+    c.loop-at-test.true c.hear-heard.result c.hear-heard.ensures).1 c.if-left-heard.false fits in
+    omega (arith, z.0.read)
+
+pub loop-at-smaller : goal.loop-at-smaller
+loop-at-smaller c =
+    let l = c.loop-at in
+    let a = c.args in
+    let fits : length a.bytes.now < 2 ^ 63 = omega (arith, c.well_formed) in
+    ((turn a.group a.cable a.bytes.now a.room l.counts l.state l.at l.left l.invariant
+    c.loop-at-test.true c.hear-heard.result c.hear-heard.ensures).1 c.if-left-heard.false fits).1
+
+pub loop-at-preserved : goal.loop-at-preserved
+loop-at-preserved c =
+    let l = c.loop-at in
+    let a = c.args in
+    let fits : length a.bytes.now < 2 ^ 63 = omega (arith, c.well_formed) in
+    rw c.one_more-more.ensures
+    ((turn a.group a.cable a.bytes.now a.room l.counts l.state l.at l.left l.invariant
+    c.loop-at-test.true c.hear-heard.result c.hear-heard.ensures).1 c.if-left-heard.false fits).0
+
+pub returns : goal.returns
+returns c =
+    let l = c.loop-at in
+    let a = c.args in
+    finish a.group a.cable a.bytes.now a.room l.counts l.state l.at l.left l.invariant c.loop-at-test.false
