@@ -42,6 +42,3 @@ module _ (l₀ : List ℕ) (to : ℕ) where
 module _ (l₀ xs l : List ℕ) (at : ℕ) (n : at ≡ length xs) (e : l ≡ sets l₀ 0 xs) (h : at ≤ length l₀) where
   pub row_first : take at l ≡ xs
   row_first = rw (e, sets-eq xs l₀ 0 (omega arith), n) (take_at xs (drop (0 + length xs) l₀) (length xs) refl)
-
-  pub row_count : at ≡ length (take at l)
-  row_count = n ∙ sym (ap length row_first)
