@@ -1,7 +1,7 @@
 -- Who owns a group, as the bit of a rule: the fence of a host lies around its groups. Assumes nothing.
 use Prim.Native.Nat.{ℕ, zero, suc, ◌+◌, ◌*◌, ◌%◌, ◌<◌, ◌≤◌, ◌^◌}
-use mathlib.Core.Path.{◌≡◌, refl, sym, ap, subst, ◌∙◌}
-use mathlib.Core.Bool.{Bool, true, false, cond, not, ◌&&◌, ◌||◌}
+use mathlib.Core.Path.{◌≡◌, refl, sym, ap, ◌∙◌}
+use mathlib.Core.Bool.{Bool, false, not, ◌&&◌}
 use mathlib.Core.List.{List}
 use native.Mathlib.Omega.{arith}
 use native.Mathlib.Nat.{one-mul}
@@ -11,9 +11,9 @@ use borrow.Author.Tests.{eqb-false, eqb-true, ne_eqb}
 use Rattle.ground.proofs.Bools.{and-false}
 use Rattle.ground.proofs.Cases.{by_bool, choose}
 use Rattle.ump.specs.Word.{group_of, message_type}
-use Rattle.keys.specs.Keys.{bit, with_bit}
+use Rattle.keys.specs.Keys.{bit}
 use Rattle.keys.proofs.Bit.{at_zero, with-other, with-same}
-use Rattle.screen.specs.Screen.{group_bit, grouped, outside}
+use Rattle.screen.specs.Screen.{grouped, outside}
 use Rattle.handover.specs.Handover.{is_host}
 use Rattle.hosts.specs.Hosts.{groups_below, host_rule, owns, with_group}
 

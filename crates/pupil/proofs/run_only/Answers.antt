@@ -48,6 +48,3 @@ returns c =
       report = c.report-2.ensures ∙ reports z;
       output = z.holds;
     }
-
--- ? inline 0 of 11, goals ['loop-read-init', 'report-requires', 'pick_next-done-requires', 'report-requires-then-done-read', 'returns-then-done-read', 'loop-read-smaller', 'loop-read-preserved', 'report-requires-2', 'returns']:
---   (λ c. start (pick _ _) (pick-near _ _) (pick-inside _ _) tt _ _)
