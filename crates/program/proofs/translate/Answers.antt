@@ -1,6 +1,6 @@
--- `program::translate` meets its contract: a run reads no more words than it is given, and sends no more than its output
--- holds; for the panel no byte has room. Assumes nothing.
-use Rattle.std.proofs.Common.{length, arith, length-append}
+-- `program::translate` meets its contract: a run reads no more words than it is given, and sends no more than its
+-- output holds; for the panel no byte has room. Assumes nothing.
+use Rattle.std.proofs.Common.{length, arith}
 use Rattle.flow.proofs.BoundLaws.{down-bounds, lines-bounds}
 use Rattle.program.proofs.translate.Goals as goal
 
@@ -27,4 +27,3 @@ returns-in-Down c =
     let z = down-bounds (length a.sent.now) a.words.now a.sent.now u.new.out u.result.done u.auto.out
     u.ensures.report u.ensures.output in
     record { read = omega (arith, b.read, z.0); bytes = b.bytes }
-
