@@ -29,7 +29,7 @@ record Most (n : ℕ) (r : Ran Cable) : Type 0 where
 -- a call, and then calls that read no more than n
 first_read : (g b : ℕ) (s : Cable) (room n : ℕ) (ms : List Made)
     → ((left : ℕ) → (ran_in left (byte_in s g b).after ms).read ≤ n) → (ran_in room s (made g s b ∷ ms)).read ≤
-        (byte_in s g b).read + n
+    (byte_in s g b).read + n
 unfolding ran_in
 first_read g b s room n ms h =
     let c = byte_in s g b in
@@ -77,7 +77,7 @@ import-bounds g room s bs out out' r l e f =
     let none : (a : ℕ) → Most (length bs) (nothing_done a s) = λ _. record { most = omega arith } in
     let some : Most (length bs) (ran_in room s (calls_in g s bs)) = record { most = calls-read g bs room s } in
     let q = either (Most (length bs)) (ltb 15 g) (none out_of_range)
-        (either (Most (length bs)) (sound s) some (none not_sound)) in (
+    (either (Most (length bs)) (sound s) some (none not_sound)) in (
       omega (arith, ap (λ (x : Imported). x.read) e, q.most),
       omega (arith, ap (λ (x : Imported). x.written) e, stored-most (run_in g room s bs).sends out out' f l),
     )

@@ -1,5 +1,5 @@
--- `cableflow::counts_in` meets its contract: after each call it is over, or the answer is counted and less is left to do.
--- Assumes nothing.
+-- `cableflow::counts_in` meets its contract: after each call it is over, or the answer is counted and less is left to
+-- do. Assumes nothing.
 use Prim.Native.Nat.{◌^◌, ◌<◌}
 use native.Mathlib.Omega.{arith}
 use lib.ListN.{length}
