@@ -1,43 +1,41 @@
 -- Two hosts stand apart: an event of a host touches records of its own groups alone, and sees nothing of any other.
 -- Assumes nothing.
 use Prim.Native.Nat.{ℕ, zero, suc, ◌-◌, ◌/◌, ◌≤◌}
-use mathlib.Core.Path.{◌≡◌, refl, sym, ap, ap₂, subst, ◌∙◌}
+use mathlib.Core.Path.{◌≡◌, refl, sym, ap, subst, ◌∙◌}
 use mathlib.Core.Bool.{Bool, true, false, true≢false, cond, not, ◌&&◌}
-use mathlib.Core.List.{List, [], ◌∷◌, ◌++◌}
+use mathlib.Core.List.{List, [], ◌∷◌}
 use native.Mathlib.Omega.{arith}
 use lib.ListN.{get_or, length, length-set, set}
 use lib.Seq.{get_or-set_other}
 use lib.Dec.{eqb, leb}
 use borrow.Author.Tests.{eq-eqb, eqb-false, eqb-true, leb-true, ne_eqb}
-use Rattle.ground.proofs.Bools.{and_left, and_right}
+use Rattle.ground.proofs.Bools.{and_right}
 use Rattle.ground.proofs.Cases.{by_bool, choose, not-both}
 use Rattle.ump.specs.Word.{group_of, message_type, place_of, voice1, voice2}
 use Rattle.ump.specs.Packet.{cut, first, packet}
-use Rattle.stream.specs.Answers.{no_room, no_table, sent, stops_run}
-use Rattle.stream.specs.Call.{Call, answer_of, fit, left_of, read_of, refused, sent_of, stopped, went, within}
-use Rattle.stream.specs.Report.{reported, reported_call}
+use Rattle.stream.specs.Answers.{no_room, sent, stops_run}
+use Rattle.stream.specs.Call.{Call, fit, refused, stopped, went, within}
 use Rattle.stream.specs.Run.{Ran, called, run, then_run}
 use Rattle.stream.proofs.RunLaws.{does-left, run-does, within-does}
 use Rattle.screen.specs.declared.Rule.{Rule}
-use Rattle.screen.specs.Screen.{goes_on, grouped, outside, screen_by}
+use Rattle.screen.specs.Screen.{goes_on, screen_by}
 use Rattle.screen.proofs.ScreenLaws.{passed}
 use Rattle.channel.specs.declared.Record.{Record}
 use Rattle.channel.specs.Record.{empty, sound, whole_table}
 use Rattle.message.specs.Message.{read1}
 use Rattle.lift.specs.Played.{record_after}
 use Rattle.voice.specs.Packet.{call_by}
-use Rattle.table.specs.Table.{one_by, run_by, stored, table_after, table_by}
+use Rattle.table.specs.Table.{stored, table_after, table_by}
 use Rattle.table.proofs.KeptLaws.{one-keeps, run-keeps}
-use Rattle.question.specs.Question.{in_range, keys_told, place_asked, showing_none}
-use Rattle.mark.specs.Mark.{mark_answer, named, record_marked, record_of, table_marked, unnamed}
+use Rattle.question.specs.Question.{in_range, keys_told, place_asked}
+use Rattle.mark.specs.Mark.{mark_answer, named, record_marked, record_of, table_marked}
 use Rattle.handover.specs.Handover.{changes_hands, is_host, owners_after, table_given}
 use Rattle.handover.proofs.HandoverLaws.{given-empty, other-owner, others-stay, table-length, table_stays}
 use Rattle.hosts.specs.Hosts.{fenced, host_keys_asked, host_keys_told, host_mark_answer, host_one_up, host_rule, host_run_up}
 use Rattle.hosts.specs.Hosts.{host_table_marked, owns}
 use Rattle.hosts.proofs.HostLaws.{fence}
-use Rattle.claims.specs.TwoHosts.{Agree, Apart, Box, Event, Seen, answered, asks, box_after, box_at, call_down}
+use Rattle.claims.specs.TwoHosts.{Agree, Apart, Box, Event, answered, asks, box_after, box_at, call_down}
 use Rattle.claims.specs.TwoHosts.{call_up, counting, counts, gives, is_by, marks, run_down, run_up, seen, sees, shown}
-use Rattle.claims.specs.TwoHosts.{told}
 use Rattle.claims.proofs.StepLaws.{has_words, table-cases, up-length}
 use Rattle.stream.proofs.CutLaws.{standing}
 

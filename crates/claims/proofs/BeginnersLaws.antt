@@ -2,11 +2,10 @@
 -- remember. Assumes nothing.
 use Prim.Native.Nat.{ℕ, ◌/◌, ◌%◌, ◌<◌}
 use mathlib.Core.Path.{◌≡◌, refl, sym, ap, subst, ◌∙◌}
-use mathlib.Core.Bool.{Bool, true, false, cond, not, ◌&&◌, ◌||◌}
-use mathlib.Core.Option.{Option, none, some}
+use mathlib.Core.Bool.{true, false}
 use mathlib.Core.List.{List, [], ◌∷◌}
 use native.Mathlib.Omega.{arith}
-use lib.ListN.{get_or, length}
+use lib.ListN.{length}
 use lib.Dec.{eqb}
 use borrow.Author.Tests.{eq-eqb, eqb-true}
 use Rattle.ground.specs.Lists.{All}
@@ -15,23 +14,23 @@ use Rattle.ump.specs.declared.Group.{Group}
 use Rattle.ump.specs.declared.Channel.{Channel}
 use Rattle.ump.specs.Word.{channel_of, group_of, message_type, place_of, status, voice1, voice2}
 use Rattle.ump.specs.Packet.{cut, first, packet}
-use Rattle.stream.specs.Call.{Call, left_of, refused, sent_of, stopped, went}
+use Rattle.stream.specs.Call.{Call, left_of, sent_of, stopped, went}
 use Rattle.stream.proofs.CallLaws.{refusal}
 use Rattle.screen.specs.Screen.{beginners_controller, beginners_rule, for_beginners, goes_on, outside, screen_by}
 use Rattle.screen.proofs.ScreenLaws.{for-room, not-for-room}
 use Rattle.memory.specs.declared.Memory.{Memory}
 use Rattle.memory.specs.Memory as Memory
 use Rattle.channel.specs.declared.Record.{Record}
-use Rattle.channel.specs.Record.{EmptyButMarks, empty, sound, whole_table}
+use Rattle.channel.specs.Record.{EmptyButMarks, sound, whole_table}
 use Rattle.message.specs.Message.{Fits1, Midi1, Midi2, channel_pressure1, control_change1, note_off1, note_on1, part}
 use Rattle.message.specs.Message.{pitch_bend1, poly_pressure1, program_change1, read1, write1}
 use Rattle.message.proofs.MessageLaws.{place1, word1}
-use Rattle.lift.specs.Lift.{Lifted, control_of, controlled, lift}
+use Rattle.lift.specs.Lift.{control_of, controlled, lift}
 use Rattle.lift.specs.Played.{record_after}
 use Rattle.lift.proofs.LiftLaws.{IfSome, lift-upward, own-control, read1-fits}
 use Rattle.lower.specs.Lower.{lower}
 use Rattle.voice.specs.Packet.{call_by, packet_if}
-use Rattle.table.specs.Table.{beginners_one_up, beginners_run_up, beginners_up, run_by, table_by}
+use Rattle.table.specs.Table.{beginners_one_up, beginners_run_up, beginners_up, table_by}
 use Rattle.table.proofs.KeptLaws.{Each, Keeps, calls-keep, one-keeps, run-keeps}
 use Rattle.claims.specs.Beginners.{Beginners, Forgets, for_room}
 use Rattle.claims.specs.RoundTrip.{Gated, StillPasses}

@@ -1,6 +1,6 @@
 -- One host under one owner list: its fence is the rule of a gate, up and down, so what is known of gates holds of it.
 -- Assumes nothing.
-use Prim.Native.Nat.{ℕ, ◌≤◌}
+use Prim.Native.Nat.{ℕ}
 use mathlib.Core.Path.{◌≡◌, refl, sym, ap, ◌∙◌}
 use mathlib.Core.Bool.{Bool, true, false, true≢false, not, ◌&&◌}
 use mathlib.Core.List.{List, [], ◌∷◌}
@@ -16,7 +16,7 @@ use Rattle.ump.specs.Packet.{first, packet}
 use Rattle.ump.proofs.PacketLaws.{at_none}
 use Rattle.stream.specs.Call.{Call, answer_of, left_of, sent_of, within}
 use Rattle.stream.proofs.CallLaws.{refusal}
-use Rattle.screen.specs.Screen.{goes_on, grouped, outside, screen_by}
+use Rattle.screen.specs.Screen.{outside, screen_by}
 use Rattle.screen.proofs.ScreenLaws.{behind-fence, outside-fence}
 use Rattle.channel.specs.declared.Record.{Record}
 use Rattle.channel.specs.Record.{empty, sound, whole_table}

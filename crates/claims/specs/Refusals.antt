@@ -1,5 +1,5 @@
 -- Demand 1 (RULES 3): a packet is refused only in its case, and what each answer leaves.
-use Rattle.std.specs.Prelude.{ℕ, ◌≤◌, ◌≡◌, Bool, cond, not, ◌&&◌, List, [], ◌∷◌, ◌++◌, get_or, length, eqb, ltb}
+use Rattle.std.specs.Prelude.{ℕ, ◌≤◌, ◌≡◌, cond, not, ◌&&◌, List, [], ◌∷◌, ◌++◌, get_or, length, eqb, ltb}
 use Rattle.ump.specs.Word.{message_type, place_of, voice1, voice2}
 use Rattle.ump.specs.Packet.{first, packet, second, size}
 use Rattle.stream.specs.Answers.{bad_data, bad_status, cut_packet, no_form, no_room, no_table, not_sound, reserved_type, sent}
