@@ -91,7 +91,8 @@ module _ (owners : List ℕ) (n group host : ℕ) where
       choose (λ (l : List ℕ). get_or l i 0 ≡ get_or owners i 0) moves
       (λ e. get_or-set_other owners group i host 0 h) (λ e. refl)
 
-  pub new-owner : give_answer owners n group host ≡ answered → group_owner (owners_after owners n group host) group ≡ host
+  pub new-owner : give_answer owners n group host ≡ answered
+      → group_owner (owners_after owners n group host) group ≡ host
   unfolding owners_after changes_hands
   new-owner a =
       let b = eqb (give_answer owners n group host) answered in

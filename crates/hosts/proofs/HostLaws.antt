@@ -42,7 +42,8 @@ unfolding groups_below bit
 none_above host owners zero g h = ap (λ (x : ℕ). eqb x 1) (at_zero g)
 none_above host owners (suc n) g h =
     choose (λ (x : ℕ). bit x g ≡ false) (owns host owners n)
-    (λ _. with-other (groups_below host owners n) n g (λ e. omega (arith, e)) ∙ none_above host owners n g (omega arith))
+    (λ _. with-other (groups_below host owners n) n g (λ e. omega (arith, e))
+    ∙ none_above host owners n g (omega arith))
     (λ _. none_above host owners n g (omega arith))
 
 -- below n the bits are the groups that the host owns
@@ -53,7 +54,8 @@ bit_below host owners (suc n) g h =
     let G = groups_below host owners n in
     by_bool (eqb g n)
     (λ e. let q = eqb-true g n e in
-    by_bool (owns host owners n) (λ o. rw (q, o) (with-same G n)) (λ o. rw (q, o) (none_above host owners n n (omega arith))))
+    by_bool (owns host owners n) (λ o. rw (q, o) (with-same G n))
+        (λ o. rw (q, o) (none_above host owners n n (omega arith))))
     (λ e. let q = eqb-false g n e in
     let ih = bit_below host owners n g (omega (arith, q)) in
     choose (λ (x : ℕ). bit x g ≡ owns host owners g) (owns host owners n) (λ _. with-other G n g q ∙ ih) (λ _. ih))
@@ -62,4 +64,5 @@ bit_below host owners (suc n) g h =
 pub fence : (host : ℕ) (owners : List ℕ) (w : ℕ)
     → outside (host_rule host owners) w ≡ (grouped (message_type w) && not (owns host owners (group_of w).0))
 unfolding outside host_rule bit
-fence host owners w = ap (λ (b : Bool). grouped (message_type w) && not b) (bit_below host owners 16 (group_of w).0 (omega arith))
+fence host owners w = ap (λ (b : Bool). grouped (message_type w) && not b)
+    (bit_below host owners 16 (group_of w).0 (omega arith))

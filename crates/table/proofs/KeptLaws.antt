@@ -26,7 +26,8 @@ use Rattle.voice.proofs.PacketLaws.{up-does}
 use Rattle.table.specs.Table.{SoundTable, one_by, run_by, stored, table_after, table_by}
 
 -- what holds of each record at its place, and of one that replaces one
-pub at_set : (P : ℕ → Record → Type 0) (t : List Record) (k : ℕ) (r : Record) → P k r → ((j : ℕ) → P j (get_or t j empty))
+pub at_set : (P : ℕ → Record → Type 0) (t : List Record) (k : ℕ) (r : Record) → P k r
+    → ((j : ℕ) → P j (get_or t j empty))
     → (j : ℕ) → P j (get_or (set t k r) j empty)
 at_set P [] k r p h j = h j
 at_set P (x ∷ t) zero r p h zero = p
@@ -46,12 +47,14 @@ fresh_unmarked =
 
 pub marked-sound : (t : List Record) → EmptyButMarks t → SoundTable t
 marked-sound t m k =
-    rw (m.each k) (proved-stays-sound.mark empty.memory (get_or t k empty).memory.coarse proved-stays-sound.at_start_lem)
+    rw (m.each k) (proved-stays-sound.mark empty.memory
+    (get_or t k empty).memory.coarse proved-stays-sound.at_start_lem)
 
 -- what a call with the table leaves, if it goes on, and what it stops with, by what the call with the packet's own
 -- record does
 pub table_does : (I : List Record → Type 0) (A : ℕ → Type 0) (rule : Rule) (t : List Record) (s : List ℕ) → A no_table
-    → Does (λ (x : Record). I (set t (place_of (first s)) x)) A (call_by rule false (get_or t (place_of (first s)) empty) s)
+    → Does (λ (x : Record). I (set t (place_of (first s)) x)) A
+    (call_by rule false (get_or t (place_of (first s)) empty) s)
     → Does I A (table_by rule false t s)
 unfolding table_by
 table_does I A rule t s ten d =
@@ -80,7 +83,8 @@ module _
     (nine : A no_room)
     (ten : A no_table)
     (eight : (k : ℕ) (r : Record) → P k r → sound r ≡ false → A not_sound)
-    (kept : (k : ℕ) (r : Record) (s : List ℕ) → k ≡ place_of (first s) → (screen_by rule voice2 (packet s)).answer ≡ goes_on
+    (kept : (k : ℕ) (r : Record) (s : List ℕ) → k ≡ place_of (first s)
+    → (screen_by rule voice2 (packet s)).answer ≡ goes_on
     → eqb (message_type (first (packet s))) voice1 ≡ true
     → sound r ≡ true → P k r → P k (record_after r (read1 (first (packet s)))))
   where

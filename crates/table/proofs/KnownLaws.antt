@@ -83,12 +83,14 @@ same-run (p ∷ ps) u good =
   where
     go : (c : Call (ℕ × List Record)) → Does (λ (v : ℕ × List Record). Good v.1) (λ _. Unit {0}) c
         → ((v : ℕ × List Record) → Good v.1 → run (within (table_by open_rule true)) v ps ≡ run (within table_up) v ps)
-        → then_run p u c (λ v. run (within (table_by open_rule true)) v ps) ≡ then_run p u c (λ v. run (within table_up) v
+        → then_run p u c (λ v. run (within (table_by open_rule true)) v ps)
+        ≡ then_run p u c (λ v. run (within table_up) v
         ps)
     go (went a ws v) d ih = rw (ih v d)
     go (stopped a) d ih = refl
 
-pub known-run : (room : ℕ) (t : List Record) (s : List ℕ) → Good t → run_by (table_by open_rule true) room t s ≡ run_up room
+pub known-run : (room : ℕ) (t : List Record) (s : List ℕ) → Good t
+    → run_by (table_by open_rule true) room t s ≡ run_up room
     t s
 unfolding run_up
 known-run room t s good = rw (same-run (cut s) (room, t) good)

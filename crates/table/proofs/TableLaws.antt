@@ -68,7 +68,8 @@ abbrev pub place_at : List ℕ → ℕ → ℕ
 place_at ws i = place_of (get_or ws i 0)
 
 pub table_at : (rule : Rule) (known : Bool) (ws : List ℕ) (t : List Record) (i : ℕ) → length t ≡ whole_table
-    → table_by rule known t (drop i ws) ≡ stored t (place_at ws i) (call_by rule known (get_or t (place_at ws i) empty) (drop
+    → table_by rule known t (drop i ws) ≡ stored t (place_at ws i) (call_by rule known (get_or t
+    (place_at ws i) empty) (drop
     i ws))
 unfolding table_by
 table_at rule known ws t i l = rw (eq-eqb (length t) whole_table l, first-at ws i)

@@ -32,7 +32,11 @@ use Rattle.table.specs.Next.{call_at, output_after_call, report_after_call, stat
 -- report e, where d was the report before it.
 abbrev pub begun : Bool → ℕ → ℕ → Progress
 begun once n l =
-    record { done = counting (cond (eqb n whole_table) sent no_table) 0 0; more = eqb n whole_table && (once || ltb 0 l) }
+    record {
+      done = counting (cond (eqb n whole_table) sent no_table) 0 0;
+      more = eqb n whole_table &&
+          (once || ltb 0 l);
+    }
 
 abbrev pub moved : Bool → ℕ → Done → Done → Progress
 moved once l d e =
@@ -72,7 +76,8 @@ module _ (j : Job) (ws : List ℕ) (tb₀ : List Record) (out₀ : List ℕ) whe
   -- one call stands at the start; a run, where a packet starts
   abbrev Place : Bool → Progress → List Record → List ℕ → Type 0
   Place true p tb out = (p.done.read ≡ 0) × (p.done.written ≡ 0) × (tb ≡ tb₀) × (out ≡ out₀)
-  Place false p tb out = Runs (table_step j) (step-near j) (step-inside j) tb₀ ws out₀ tb out p.done.read p.done.written × (p.done.read < length ws)
+  Place false p tb out = Runs (table_step j) (step-near j)
+      (step-inside j) tb₀ ws out₀ tb out p.done.read p.done.written × (p.done.read < length ws)
 
   abbrev pub Stands : Bool → Bool → Progress → List Record → List ℕ → Type 0
   Stands once true p tb out = (length tb ≡ whole_table) × Place once p tb out
@@ -154,7 +159,8 @@ module _ (j : Job) (ws : List ℕ) (tb₀ : List Record) (out₀ : List ℕ) whe
         go false e false f =
             let r = t.0 (λ q. eqb-false (i + k) i e (omega (arith, q))) in (
               (
-                rw (asked-run (table_step j) (length out₀) tb₀ ws l₀) (finish (table_step j) (step-near j) (step-inside j)
+                rw (asked-run (table_step j) (length out₀) tb₀ ws l₀)
+                    (finish (table_step j) (step-near j) (step-inside j)
                     tb₀ ws out₀ tb' out' (i + k) (n + m) r.0 (ltb-false (i + k) (length ws) f)),
                 refl,
               ),
@@ -186,7 +192,8 @@ module _ (j : Job) (ws : List ℕ) (tb₀ : List Record) (out₀ : List ℕ) whe
       first : Bool → Bool → Progress
       first once d = record { done = counting sent 0 0; more = once || d }
 
-      goes : (l : length tb₀ ≡ whole_table) (once d : Bool) → ltb 0 (length ws) ≡ d → Stands once (once || d) (first once
+      goes : (l : length tb₀ ≡ whole_table) (once d : Bool) → ltb 0 (length ws) ≡ d
+          → Stands once (once || d) (first once
           d) tb₀ out₀
       goes l true d e = (l, (refl, refl, refl, refl))
       goes l false true e = (
@@ -239,7 +246,8 @@ module _ (ws : List ℕ) (j : Job) (tb₀ : List Record) (out₀ : List ℕ) whe
     going = subst (λ (b : Bool). Stands j ws tb₀ out₀ j.once b p tb out) e k
 
     further : (q : Progress) (tb' : List Record) (out' : List ℕ) → Keeps q tb' out'
-        → (q.more ≡ true → (p.done.read < q.done.read) × (q.done.read ≤ length ws)) → Keeps q tb' out' × (left q < left p)
+        → (q.more ≡ true → (p.done.read < q.done.read) × (q.done.read ≤ length ws))
+        → Keeps q tb' out' × (left q < left p)
     further q tb' out' h r =
         (h, subst (λ (b : Bool). left q < cond b (suc (length ws - p.done.read)) 0) (sym e) (go q.more r))
       where
@@ -258,8 +266,10 @@ module _ (ws : List ℕ) (j : Job) (tb₀ : List Record) (out₀ : List ℕ) whe
         let q₁ : Progress = moved j.once (length ws) p.done d₁ in
         let same_q : q ≡ q₁ =
         same q (moved j.once (length ws) p.done d) eq em ∙ ap (λ (x : Done). moved j.once (length ws) p.done x) ed in
-        let z = turned j ws tb₀ out₀ (sym l ∙ going.0) p tb out j.once (ap (λ (x : List Record). length x) (sym et) ∙ lt) going in
-        rw (same_q, et, eo) (further q₁ (state_after (table_step j) ws p.done tb out) (output_after_call (table_step j) ws
+        let z = turned j ws tb₀ out₀ (sym l ∙ going.0) p tb out j.once
+        (ap (λ (x : List Record). length x) (sym et) ∙ lt) going in
+        rw (same_q, et, eo) (further q₁ (state_after (table_step j) ws p.done tb out)
+        (output_after_call (table_step j) ws
         p.done tb out) z.0 z.1)
 
   -- where there is no more, all is done, and the report is that of what was asked for

@@ -94,7 +94,8 @@ module _ (rule : Rule) (to : ℕ) (out p : List ℕ) where
   refused-sends n = rw n (refl, refl)
 
   -- up to four words that were stored
-  pub stored-sends : goes_down rule p ≡ true → (x : UpToFourWords) → x ≡ packed (words_down p) → length (words_down p) ≤ 4
+  pub stored-sends : goes_down rule p ≡ true → (x : UpToFourWords) → x ≡ packed (words_down p)
+      → length (words_down p) ≤ 4
       → (r : ℕ) (o : List ℕ) → r ≡ sent_in (length out - to) (sent_words x) → o ≡ stored_in to out (sent_words x)
       → Sends rule to out p r o
   stored-sends g x e few r o f k =
@@ -170,7 +171,8 @@ module _ (rule : Rule) (d : Done) (p out : List ℕ) (some : eqb (length p) 0 �
   pub none-fit-told : number ≡ none_fit → counting no_room d.read d.written ≡ report_of d p out call
   none-fit-told e =
       let g = is-not-refused (λ r. omega (arith, sym e ∙ r)) in
-      by_bool (leb (length ws) room) (λ l. absurd (omega (arith, few_words p few, rw (g, l) at e))) (λ l. no_room_lem g l)
+      by_bool (leb (length ws) room) (λ l. absurd (omega (arith, few_words p few, rw (g, l) at e)))
+      (λ l. no_room_lem g l)
 
   pub sent-told : (number ≡ refused_down → ⊥) → (number ≡ none_fit → ⊥)
       → counting (cond (eqb number 0) no_form sent) (d.read + length p) (d.written + number) ≡ report_of d p out call

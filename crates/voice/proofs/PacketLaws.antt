@@ -50,7 +50,8 @@ pub down-inside : (rule : Rule) (t : Unit {0}) (w : ℕ) (s : List ℕ) → Insi
 unfolding call_down_by packet_down_by screen_by screened refused
 down-inside rule t w s = packet-inside (packet_down_by rule) refl w s
 
--- What a call up comes to under a rule at the packet p, whose first word is w, with the record r, of which `ok` says that
+-- What a call up comes to under a rule at the packet p, whose first word is w, with the record r, of which `ok` says
+-- that
 -- it is sound: refused, sent on, or a voice message. In a state t, where `put` puts a record back.
 pub record UpCases {T : Type 0} (P : Call T → Type 0) (t : T) (put : Record → T) (rule : Rule) (ok : Bool) (r : Record)
     (p : List ℕ) (w : ℕ) : Type 0 where
@@ -80,7 +81,8 @@ up-cases P rule ok r p u =
     w : ℕ
     w = first p
 
-    go : (screen_by rule voice2 p).answer ≡ goes_on → eqb (message_type w) voice1 ≡ true → ok ≡ true → (o : Option Midi2)
+    go : (screen_by rule voice2 p).answer ≡ goes_on → eqb (message_type w) voice1 ≡ true → ok ≡ true
+        → (o : Option Midi2)
         → (lift r.memory (read1 w)).sends ≡ o → P (sending (group_of w) (channel_of w) (record_after r (read1 w)) o)
     go f e h none k = u.takes f e h k
     go f e h (some m) k = u.sends f e h m k
@@ -88,7 +90,8 @@ up-cases P rule ok r p u =
 -- and what a call down comes to
 pub record DownCases (P : Call (Unit {0}) → Type 0) (rule : Rule) (p : List ℕ) : Type 0 where
   pub refuses : ((screen_by rule voice1 p).answer ≡ goes_on → ⊥) → P (refused (screen_by rule voice1 p).answer tt)
-  pub onward : (screen_by rule voice1 p).answer ≡ goes_on → eqb (message_type (first p)) voice2 ≡ false → P (went sent p tt)
+  pub onward : (screen_by rule voice1 p).answer ≡ goes_on → eqb (message_type (first p)) voice2 ≡ false
+      → P (went sent p tt)
   pub formless : (screen_by rule voice1 p).answer ≡ goes_on → eqb (message_type (first p)) voice2 ≡ true
       → lower (read2 (first p) (second p)) ≡ [] → P (went no_form [] tt)
   pub sends : (screen_by rule voice1 p).answer ≡ goes_on → eqb (message_type (first p)) voice2 ≡ true
@@ -96,7 +99,8 @@ pub record DownCases (P : Call (Unit {0}) → Type 0) (rule : Rule) (p : List �
       → lower (read2 (first p) (second p)) ≡ m ∷ ms
       → P (went sent (map (write1 (group_of (first p)) (channel_of (first p))) (m ∷ ms)) tt)
 
-pub down-cases : (P : Call (Unit {0}) → Type 0) (rule : Rule) (p : List ℕ) → DownCases P rule p → P (packet_down_by rule p)
+pub down-cases : (P : Call (Unit {0}) → Type 0) (rule : Rule) (p : List ℕ) → DownCases P rule p
+    → P (packet_down_by rule p)
 unfolding packet_down_by speak_down
 down-cases P rule p d =
     screened-cases P (screen_by rule voice1 p) tt (act_down p)
@@ -195,7 +199,8 @@ module _ (rule : Rule) (room : ℕ) (ok : Bool) (r : Record) (p : List ℕ) wher
   Made c =
       effected r (effect_by (effect_at p) c) (left_of (room, r) c).1.memory key ≡ (left_of (room, r) c).1
 
-  stays : (a : ℕ) → leb a taken_in ≡ false → (c : Call (ℕ × Record)) → answer_of c ≡ a → (left_of (room, r) c).1 ≡ r → Made c
+  stays : (a : ℕ) → leb a taken_in ≡ false → (c : Call (ℕ × Record)) → answer_of c ≡ a → (left_of (room, r) c).1 ≡ r
+      → Made c
   unfolding effected
   stays a h c e l = rw (e, h, l)
 
@@ -232,16 +237,19 @@ first_of ws i =
     go : (w : ℕ) (s : List ℕ) → (packet (w ∷ s) ≡ []) ⊎ (first (packet (w ∷ s)) ≡ w)
     go w s = ⊎_elim (λ z. inl z) (λ h. inr (rw h.0 (taken w s (size w) (size-range w)))) (packet-size w s)
 
--- the effect of a packet, with its own key, is the record that its call leaves; where there is no packet, any key will do
+-- the effect of a packet, with its own key, is the record that its call leaves; where there is no packet, any key will
+-- do
 effect-left : (rule : Rule) (room : ℕ) (ok : Bool) (r : Record) (p : List ℕ) (k : ℕ) → (p ≡ []) ⊎ (data1 (first p) ≡ k)
-    → effected r (effect_by (effect_at p) (fit room (packet_if rule ok r p))) (left_of (room, r) (fit room (packet_if rule ok r p))).1.memory k
+    → effected r (effect_by (effect_at p) (fit room (packet_if rule ok r p)))
+    (left_of (room, r) (fit room (packet_if rule ok r p))).1.memory k
     ≡ (left_of (room, r) (fit room (packet_if rule ok r p))).1
 unfolding effected
 effect-left rule room ok r p k (inl z) = subst Leaves (sym z) none
   where
     Leaves : List ℕ → Type 0
     Leaves p =
-        effected r (effect_by (effect_at p) (fit room (packet_if rule ok r p))) (left_of (room, r) (fit room (packet_if rule ok r p))).1.memory k
+        effected r (effect_by (effect_at p) (fit room (packet_if rule ok r p)))
+        (left_of (room, r) (fit room (packet_if rule ok r p))).1.memory k
         ≡ (left_of (room, r) (fit room (packet_if rule ok r p))).1
 
     none : Leaves []
@@ -250,7 +258,8 @@ effect-left rule room ok r p k (inr e) = rw (← e) (effect-made rule room ok r 
 
 -- so it is with the key that stands in the words
 pub effect-at : (rule : Rule) (room : ℕ) (ok : Bool) (r : Record) (ws : List ℕ) (i : ℕ) → let p = packet (drop i ws) in
-    effected r (effect_by (effect_at p) (fit room (packet_if rule ok r p))) (left_of (room, r) (fit room (packet_if rule ok r p))).1.memory
+    effected r (effect_by (effect_at p) (fit room (packet_if rule ok r p)))
+    (left_of (room, r) (fit room (packet_if rule ok r p))).1.memory
     (data1 (get_or ws i 0))
     ≡ (left_of (room, r) (fit room (packet_if rule ok r p))).1
 effect-at rule room ok r ws i =

@@ -34,7 +34,8 @@ module _ (s : UpToFourWords) (to : ℕ) (out : List ℕ) (few : s.count ≤ 4) w
   unfolding sent_words
   put-none h = rw (h, leb-zero (length out - to)) (refl, sym (written_none to out))
 
-  pub put_all : (ws : List ℕ) → sent_words s ≡ ws → 0 < length ws → length ws ≤ length out - to → Put true (sets out to ws)
+  pub put_all : (ws : List ℕ) → sent_words s ≡ ws → 0 < length ws → length ws ≤ length out - to
+      → Put true (sets out to ws)
   put_all ws e i h = rw (e, le-leb (length ws) (length out - to) h) (refl, sets-eq ws out to (omega arith))
 
 module _ (d : Done) (n : ℕ) (out : List ℕ) (s : UpToFourWords) where

@@ -1,4 +1,5 @@
--- What a call in the middle of a stream comes to: a refusal, a stop, words sent, and a message with its record. Assumes nothing.
+-- What a call in the middle of a stream comes to: a refusal, a stop, words sent, and a message with its record. Assumes
+-- nothing.
 use mathlib.Core.Path.{◌≡◌, refl, sym, ap, ◌∙◌}
 use mathlib.Core.Bool.{Bool, true, false, cond}
 use mathlib.Core.Logic.{⊎_elim}
@@ -68,11 +69,13 @@ module _ {T : Type 0} (d : Done) (p out : List ℕ) (t : T) where
   module _ (ws : List ℕ) where
     abbrev Sent : Call (ℕ × T) → Bool → Type 0
     Sent c b =
-        (◌≡◌ {A = Done} (cond b (counting sent (d.read + length p) (d.written + length ws)) (counting no_room d.read d.written))
+        (◌≡◌ {A = Done} (cond b (counting sent (d.read + length p) (d.written + length ws))
+        (counting no_room d.read d.written))
         (placing (answer_of c) (place_told (answer_of c) p) (d.read + read_of p c) (d.written + length (sent_of c))))
         × (cond b (written d.written ws out) out ≡ written d.written (sent_of c) out)
 
-    pub sent-words : (report_after d (length p) out ws ≡ report_of d p out (went sent ws t)) × (output_after d out ws ≡ output_of d out (went sent ws t))
+    pub sent-words : (report_after d (length p) out ws ≡ report_of d p out (went sent ws t))
+        × (output_after d out ws ≡ output_of d out (went sent ws t))
     sent-words = go (leb (length ws) (length out - d.written))
       where
         go : (b : Bool) → Sent (cond b (went sent ws (length out - d.written - length ws, t)) (stopped no_room)) b
@@ -84,19 +87,23 @@ pub passes : {T : Type 0} (s : Screened) (t : T) (act : Call T) → s.answer ≡
 unfolding screened
 passes s t act e = rw e
 
-pub refuses : {T : Type 0} (s : Screened) (t : T) (act : Call T) → (s.answer ≡ goes_on → ⊥) → screened s t act ≡ refused s.answer t
+pub refuses : {T : Type 0} (s : Screened) (t : T) (act : Call T) → (s.answer ≡ goes_on → ⊥)
+    → screened s t act ≡ refused s.answer t
 unfolding screened
 refuses s t act n = rw (ne_eqb s.answer goes_on n)
 
 -- a record that stays beside a refusal
-pub refused-turn : (d : Done) (p out : List ℕ) (r : Record) (may : ℕ) (a : ℕ) → (stops_run a ≡ true → p ≡ []) → leb a taken_in ≡ false
-    → record { after = r.memory; effect = leaves; done = placing a (place_told a p) (d.read + length p) d.written } ≡ turned d p out r may (refused a r)
+pub refused-turn : (d : Done) (p out : List ℕ) (r : Record) (may : ℕ) (a : ℕ) → (stops_run a ≡ true → p ≡ [])
+    → leb a taken_in ≡ false
+    → record { after = r.memory; effect = leaves; done = placing a (place_told a p) (d.read + length p) d.written }
+    ≡ turned d p out r may (refused a r)
 refused-turn d p out r may a no-packet above =
     let z = refusal {T = ℕ × Record} a (length out - d.written, r) p no-packet in
     rw (refused-fits (length out - d.written) a r, z.0, z.1, z.2, z.3, above, add-zero d.written)
 
 -- a message with its record: it sends two words, has no room for them, or is taken in
-module _ (d : Done) (w : ℕ) (r : Record) (out : List ℕ) (m : UpwardMessage) (e : m ≡ message_in w r.memory (read1 w)) where
+module _ (d : Done) (w : ℕ) (r : Record) (out : List ℕ) (m : UpwardMessage)
+    (e : m ≡ message_in w r.memory (read1 w)) where
   abbrev Spoken : EffectAndReport → List ℕ → Type 0
   Spoken x o = (x ≡ turned d (w ∷ []) out r (effect_of (read1 w)) (spoken r w)) × (o ≡ output_of d out (spoken r w))
 
@@ -110,26 +117,31 @@ module _ (d : Done) (w : ℕ) (r : Record) (out : List ℕ) (m : UpwardMessage) 
       (sets out d.written (m.first ∷ m.second ∷ []))
   message-sent s h i = go (lift r.memory (read1 w)).sends e
     where
-      go : (o : Option Midi2) → m ≡ sending_in (group_of w) (channel_of w) (lift r.memory (read1 w)).after (effect_of (read1 w)) o
+      go : (o : Option Midi2) → m ≡ sending_in (group_of w) (channel_of w) (lift r.memory (read1 w)).after
+          (effect_of (read1 w)) o
           → As o (record { after = m.after; effect = m.effect; done = counting sent (d.read + 1) (d.written + 2) })
           (sets out d.written (m.first ∷ m.second ∷ []))
       go none f = not-both (sym (ap (λ (x : UpwardMessage). x.sends) f) ∙ s)
-      go (some x) f = rw (le-leb 2 (length out - d.written) h) (rw f, sets-eq (m.first ∷ m.second ∷ []) out d.written (omega arith) ∙ rw f)
+      go (some x) f = rw (le-leb 2 (length out - d.written) h)
+          (rw f, sets-eq (m.first ∷ m.second ∷ []) out d.written (omega arith) ∙ rw f)
 
   pub message-tight : m.sends ≡ true → length out - d.written < 2
       → Spoken (record { after = r.memory; effect = leaves; done = counting no_room d.read d.written }) out
   message-tight s h = go (lift r.memory (read1 w)).sends e
     where
-      go : (o : Option Midi2) → m ≡ sending_in (group_of w) (channel_of w) (lift r.memory (read1 w)).after (effect_of (read1 w)) o
+      go : (o : Option Midi2) → m ≡ sending_in (group_of w) (channel_of w) (lift r.memory (read1 w)).after
+          (effect_of (read1 w)) o
           → As o (record { after = r.memory; effect = leaves; done = counting no_room d.read d.written }) out
       go none f = not-both (sym (ap (λ (x : UpwardMessage). x.sends) f) ∙ s)
-      go (some x) f = rw (lt-leb 2 (length out - d.written) h) (rw (add-zero d.read, add-zero d.written), sym (written_none d.written out))
+      go (some x) f = rw (lt-leb 2 (length out - d.written) h)
+          (rw (add-zero d.read, add-zero d.written), sym (written_none d.written out))
 
   pub message-quiet : m.sends ≡ false
       → Spoken (record { after = m.after; effect = m.effect; done = counting taken_in (d.read + 1) d.written }) out
   message-quiet s = go (lift r.memory (read1 w)).sends e
     where
-      go : (o : Option Midi2) → m ≡ sending_in (group_of w) (channel_of w) (lift r.memory (read1 w)).after (effect_of (read1 w)) o
+      go : (o : Option Midi2) → m ≡ sending_in (group_of w) (channel_of w) (lift r.memory (read1 w)).after
+          (effect_of (read1 w)) o
           → As o (record { after = m.after; effect = m.effect; done = counting taken_in (d.read + 1) d.written }) out
       go none f = rw (leb-zero (length out - d.written)) (rw (f, add-zero d.written), sym (written_none d.written out))
       go (some x) f = not-both (sym s ∙ ap (λ (x : UpwardMessage). x.sends) f)
@@ -142,15 +154,23 @@ module _ (ws : List ℕ) (i : ℕ) where
 
   pub voice-packet : message_type (get_or ws i 0) ≡ voice1 → packet (drop i ws) ≡ get_or ws i 0 ∷ []
   unfolding packet size
-  voice-packet h = rw (drop-cons ws i 0 (voice-inside h), h, le-leb 1 (length (get_or ws i 0 ∷ drop (suc i) ws)) (omega arith))
+  voice-packet h = rw (
+    drop-cons ws i 0 (voice-inside h),
+    h,
+    le-leb 1 (length (get_or ws i 0 ∷ drop (suc i) ws))
+        (omega arith),
+  )
 
   -- and at any other place the packet is of another type
-  pub other-packet : (message_type (get_or ws i 0) ≡ voice1 → ⊥) → eqb (message_type (first (packet (drop i ws)))) voice1 ≡ false
+  pub other-packet : (message_type (get_or ws i 0) ≡ voice1 → ⊥)
+      → eqb (message_type (first (packet (drop i ws)))) voice1 ≡ false
   unfolding packet
-  other-packet n = by_bool (ltb i (length ws)) (λ e. rw (drop-cons ws i 0 (ltb-true i (length ws) e)) (found (get_or ws i 0) (drop (suc i) ws) n))
+  other-packet n = by_bool (ltb i (length ws)) (λ e. rw (drop-cons ws i 0 (ltb-true i (length ws) e)) (found
+      (get_or ws i 0) (drop (suc i) ws) n))
       (λ e. rw (drop_of_length-le ws (ltb-false i (length ws) e)) refl)
     where
-      found : (w : ℕ) (s : List ℕ) → (message_type w ≡ voice1 → ⊥) → eqb (message_type (first (packet (w ∷ s)))) voice1 ≡ false
+      found : (w : ℕ) (s : List ℕ) → (message_type w ≡ voice1 → ⊥)
+          → eqb (message_type (first (packet (w ∷ s)))) voice1 ≡ false
       found w s n = ⊎_elim (λ z. rw z) (λ h. rw h.0 (taken (size w) (size-range w))) (packet-size w s)
         where
           taken : (k : ℕ) → (1 ≤ k) × (k ≤ 4) → eqb (message_type (first (take k (w ∷ s)))) voice1 ≡ false
@@ -169,15 +189,22 @@ module _ (d : Done) (p out : List ℕ) (r : Record) where
   abbrev Same : Call (ℕ × Unit {0}) → Call (ℕ × Record) → Type 0
   Same c k =
       (◌≡◌ {A = EffectAndReport}
-      (record { after = r.memory; effect = leaves; done = placing (answer_of c) (place_told (answer_of c) p) (d.read + read_of p c) (d.written + length (sent_of c)) })
+      (record {
+        after = r.memory;
+        effect = leaves;
+        done = placing (answer_of c) (place_told (answer_of c) p)
+            (d.read + read_of p c) (d.written + length (sent_of c));
+      })
       (record {
         after = (left_of (room, r) k).1.memory;
         effect = effect_by leaves k;
-        done = placing (answer_of k) (place_told (answer_of k) p) (d.read + read_of p k) (d.written + length (sent_of k));
+        done = placing (answer_of k) (place_told (answer_of k) p) (d.read + read_of p k)
+            (d.written + length (sent_of k));
       }))
       × (written d.written (sent_of c) out ≡ written d.written (sent_of k) out)
 
-  same_sent : (l : Bool) → Same (cond l (went sent p (room - length p, tt)) (stopped no_room)) (cond l (went sent p (room - length p, r)) (stopped no_room))
+  same_sent : (l : Bool) → Same (cond l (went sent p (room - length p, tt)) (stopped no_room))
+      (cond l (went sent p (room - length p, r)) (stopped no_room))
   same_sent true = (refl, refl)
   same_sent false = (refl, refl)
 
@@ -190,7 +217,8 @@ module _ (d : Done) (p out : List ℕ) (r : Record) where
       go false = rw (same-either (leb a taken_in)) (refl, refl)
 
   pub onward-turn : (rule : Rule) (ok : Bool) → eqb (message_type (first p)) voice1 ≡ false
-      → (record { after = r.memory; effect = leaves; done = report_of d p out (onward_of rule voice2 p) } ≡ turned d p out r (effect_at p) (packet_if rule ok r p))
+      → (record { after = r.memory; effect = leaves; done = report_of d p out (onward_of rule voice2 p) }
+      ≡ turned d p out r (effect_at p) (packet_if rule ok r p))
       × (output_of d out (onward_of rule voice2 p) ≡ output_of d out (packet_if rule ok r p))
   unfolding packet_if
   onward-turn rule ok n = rw n (go (eqb s.answer goes_on) refl)
@@ -198,13 +226,24 @@ module _ (d : Done) (p out : List ℕ) (r : Record) where
       s : Screened
       s = screen_by rule voice2 p
 
-      go : (b : Bool) → eqb s.answer goes_on ≡ b → Same (in_room d out (screened s tt (went sent p tt))) (in_room d out (screened s r (went sent p r)))
+      go : (b : Bool) → eqb s.answer goes_on ≡ b → Same (in_room d out (screened s tt (went sent p tt)))
+          (in_room d out (screened s r (went sent p r)))
       go true e =
-          rw (passes {T = Unit {0}} s tt (went sent p tt) (eqb-true s.answer goes_on e), passes s r (went sent p r) (eqb-true s.answer goes_on e))
+          rw (
+            passes {T = Unit {0}} s tt (went sent p tt) (eqb-true s.answer goes_on e),
+            passes s r (went sent p r)
+                (eqb-true s.answer goes_on e),
+          )
           (same_sent (leb (length p) room))
       go false e =
           let f = eqb-false s.answer goes_on e in
-          rw (refuses {T = Unit {0}} s tt (went sent p tt) f, refuses s r (went sent p r) f, refused-fits {T = Unit {0}} room s.answer tt, refused-fits room s.answer r)
+          rw (
+            refuses {T = Unit {0}} s tt (went sent p tt) f,
+            refuses s r (went sent p r) f,
+            refused-fits
+                {T = Unit {0}} room s.answer tt,
+            refused-fits room s.answer r,
+          )
           (same-refused s.answer)
 
 -- What the functions report of a packet, from what they were told of it. `r` is the report, and `o` the output after.
@@ -213,7 +252,8 @@ module _ (d : Done) (p out : List ℕ) (r : Done) (o : List ℕ) where
   Comes c = (r ≡ report_of d p out c) × (o ≡ output_of d out c)
 
   -- up to four words that were sent
-  pub sent-comes : (x : UpToFourWords) (ws : List ℕ) → x ≡ packed ws → length ws ≤ 4 → r ≡ report_after d (length p) out (sent_words x)
+  pub sent-comes : (x : UpToFourWords) (ws : List ℕ) → x ≡ packed ws → length ws ≤ 4
+      → r ≡ report_after d (length p) out (sent_words x)
       → o ≡ output_after d out (sent_words x) → Comes (went sent ws tt)
   sent-comes x ws e few f g =
       let k : sent_words x ≡ ws = ap sent_words e ∙ packed-words ws few in
@@ -222,16 +262,23 @@ module _ (d : Done) (p out : List ℕ) (r : Done) (o : List ℕ) where
 
   module _ (rule : Rule) (wrong : ℕ) (s : Screened) (e : s ≡ screen_by rule wrong p) (act : Call (Unit {0})) where
     pub passed-comes : s.answer ≡ goes_on → Comes act → Comes (screened (screen_by rule wrong p) tt act)
-    passed-comes a h = rw (passes {T = Unit {0}} (screen_by rule wrong p) tt act (sym (ap (λ (x : Screened). x.answer) e) ∙ a)) h
+    passed-comes a h = rw (passes {T = Unit {0}} (screen_by rule wrong p) tt act
+        (sym (ap (λ (x : Screened). x.answer) e) ∙ a)) h
 
     pub refused-comes : (s.answer ≡ goes_on → ⊥) → r ≡ placing s.answer s.place (d.read + length p) d.written → o ≡ out
         → Comes (screened (screen_by rule wrong p) tt act)
     refused-comes n f g =
-        let no-packet : stops_run s.answer ≡ true → p ≡ [] = λ k. cut-only rule wrong p (ap (λ (x : Screened). stops_run x.answer) (sym e) ∙ k) in
+        let no-packet : stops_run s.answer ≡ true → p ≡ [] = λ k. cut-only rule wrong p (ap (λ
+        (x : Screened). stops_run x.answer) (sym e) ∙ k) in
         let k : screened (screen_by rule wrong p) tt act ≡ refused s.answer tt =
         rw (← e) (refuses {T = Unit {0}} s tt act n) in
         let told : s.place ≡ place_told s.answer p = rw (← e) at (screen-place rule wrong p) in
-        rw k (f ∙ ap (λ (x : ℕ). placing s.answer x (d.read + length p) d.written) told ∙ sym (refused-report {T = Unit {0}} d p out tt s.answer no-packet), g ∙ refused-output {T = Unit {0}} d p out tt s.answer no-packet)
+        rw k (
+          f ∙ ap (λ (x : ℕ). placing s.answer x (d.read + length p) d.written) told
+              ∙ sym (refused-report {T = Unit {0}} d p out tt s.answer no-packet),
+          g
+              ∙ refused-output {T = Unit {0}} d p out tt s.answer no-packet,
+        )
 
 -- at most as many words as are left, and at most four
 pub next_fits : (ws : List ℕ) (i : ℕ) → length ws < 2 ^ 64 → i < 2 ^ 64 → i + length (packet (drop i ws)) < 2 ^ 64
@@ -241,7 +288,8 @@ pub next-few : (s : List ℕ) → length (packet s) ≤ 4
 unfolding packet
 next-few [] = omega arith
 next-few (w ∷ s) =
-    ⊎_elim (λ z. rw z (omega arith)) (λ h. rw h.0 (omega (arith, length-take (size w) (w ∷ s), size-range w))) (packet-size w s)
+    ⊎_elim (λ z. rw z (omega arith)) (λ h. rw h.0 (omega (arith, length-take (size w) (w ∷ s), size-range w)))
+    (packet-size w s)
 
 -- a message whose record is sound, and one whose record is not
 pub speaks-sound : (ok : Bool) (r : Record) (w : ℕ) → ok ≡ true → speak_if ok r w ≡ spoken r w
@@ -256,7 +304,8 @@ unfolding speak_if
 speaks-unsound ok d w r out h = (rw (h, add-zero d.read, add-zero d.written), rw h (sym (written_none d.written out)))
 
 -- a MIDI 1.0 voice message that the screening refuses
-pub check-refused : (rule : Rule) (ok : Bool) (d : Done) (w : ℕ) (r : Record) (out : List ℕ) (s : Screened) → message_type w ≡ voice1 → s ≡ screen_voice1 rule w
+pub check-refused : (rule : Rule) (ok : Bool) (d : Done) (w : ℕ) (r : Record) (out : List ℕ) (s : Screened)
+    → message_type w ≡ voice1 → s ≡ screen_voice1 rule w
     → (s.answer ≡ goes_on → ⊥)
     → let x = screen_by rule voice2 (w ∷ []) in
     (record { after = r.memory; effect = leaves; done = placing s.answer s.place (d.read + 1) d.written }
@@ -293,9 +342,16 @@ module _ (rule : Rule) (ok : Bool) (d : Done) (w : ℕ) (r : Record) (out : List
   may-not-speak h = rw passes-word (speaks-unsound ok d w r out h)
 
 -- and the packet that is one
-pub voice-turn : (rule : Rule) (ok : Bool) (d : Done) (ws out : List ℕ) (r : Record) (x : EffectAndReport) (o : List ℕ) → message_type (get_or ws d.read 0) ≡ voice1
+pub voice-turn : (rule : Rule) (ok : Bool) (d : Done) (ws out : List ℕ) (r : Record) (x : EffectAndReport)
+    (o : List ℕ) → message_type (get_or ws d.read 0) ≡ voice1
     → let w = get_or ws d.read 0 in
     let c = screened (screen_by rule voice2 (w ∷ [])) r (speak_if ok r w) in
     (x ≡ turned d (w ∷ []) out r (effect_of (read1 w)) c) × (o ≡ output_of d out c)
-    → let p = next ws d in (x ≡ turned d p out r (effect_at p) (packet_if rule ok r p)) × (o ≡ output_of d out (packet_if rule ok r p))
-voice-turn rule ok d ws out r x o e h = rw (voice-packet ws d.read e, packet-voice1 rule ok r (get_or ws d.read 0) e, e) h
+    → let p = next ws d in (x ≡ turned d p out r (effect_at p) (packet_if rule ok r p))
+    × (o ≡ output_of d out (packet_if rule ok r p))
+voice-turn rule ok d ws out r x o e h = rw (
+  voice-packet ws d.read e,
+  packet-voice1 rule ok r
+      (get_or ws d.read 0) e,
+  e,
+) h

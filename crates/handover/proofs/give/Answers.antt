@@ -13,7 +13,8 @@ pub returns-then-changes_hands-clause-owners : goal.returns-then-changes_hands-c
 unfolding owners_after
 returns-then-changes_hands-clause-owners c =
     let a = c.args in
-    let h : changes_hands a.owners.now a.n a.group a.host ≡ true = sym c.changes_hands.ensures ∙ c.if-changes_hands.true in
+    let h : changes_hands a.owners.now a.n a.group a.host ≡ true = sym c.changes_hands.ensures
+    ∙ c.if-changes_hands.true in
     rw h
 
 pub returns-else-changes_hands-clause-owners : goal.returns-else-changes_hands-clause-owners

@@ -17,9 +17,9 @@ loop-p-preserved c =
     let d = c.one-done in
     let q = c.onward-p in
     let long : length d.new.table ≡ length l.table = omega arith in
-    let s = steps a.words.now a.job a.table.now a.out.now l.p l.table l.out c.loop-p-test.true l.invariant.0 l.invariant.1
-    d.result q.result d.new.table d.new.out d.ensures.report d.ensures.table d.ensures.output long q.ensures.report
-    q.ensures.more in
+    let s = steps a.words.now a.job a.table.now a.out.now l.p l.table l.out c.loop-p-test.true l.invariant.0
+    l.invariant.1 d.result q.result d.new.table d.new.out d.ensures.report d.ensures.table d.ensures.output long
+    q.ensures.report q.ensures.more in
     (s.0, long ∙ l.invariant.1)
 
 pub loop-p-smaller : goal.loop-p-smaller
@@ -29,9 +29,9 @@ loop-p-smaller c =
     let d = c.one-done in
     let q = c.onward-p in
     let long : length d.new.table ≡ length l.table = omega arith in
-    let s = steps a.words.now a.job a.table.now a.out.now l.p l.table l.out c.loop-p-test.true l.invariant.0 l.invariant.1
-    d.result q.result d.new.table d.new.out d.ensures.report d.ensures.table d.ensures.output long q.ensures.report
-    q.ensures.more in
+    let s = steps a.words.now a.job a.table.now a.out.now l.p l.table l.out c.loop-p-test.true l.invariant.0
+    l.invariant.1 d.result q.result d.new.table d.new.out d.ensures.report d.ensures.table d.ensures.output long
+    q.ensures.report q.ensures.more in
     s.1
 
 pub returns : goal.returns

@@ -30,7 +30,8 @@ pub returns-else-message_type-eq-MIDI1_VOICE : goal.returns-else-message_type-eq
 returns-else-message_type-eq-MIDI1_VOICE c =
     let a = c.args in
     let p = c.packet_at in
-    let e = other-packet a.words.now a.past.read (λ z. c.if-message_type-eq-MIDI1_VOICE.false (c.message_type.ensures ∙ ap message_type c.word_at-w.ensures ∙ z)) in
+    let e = other-packet a.words.now a.past.read (λ z. c.if-message_type-eq-MIDI1_VOICE.false (c.message_type.ensures
+    ∙ ap message_type c.word_at-w.ensures ∙ z)) in
     let z = onward-turn a.past p.result.now a.out.now a.«record» a.rule _ (rw (← p.ensures) at e) in
     let k = c.onward-done.ensures in
     rw (c.stays.ensures, k.report, ← p.ensures) record {
