@@ -1,28 +1,18 @@
--- `exchange::export_as_bytes` meets its contract: four bytes were given for each word, no more words are read than those,
--- and no more bytes are sent than the text holds. Assumes nothing.
-use Prim.Native.Nat.{◌*◌, ◌≤◌}
-use mathlib.Core.Path.{sym}
+-- `exchange::export_as_bytes` meets its contract: four bytes were given for each word, no more words are read than
+-- those, and no more bytes are sent than the text holds. Assumes nothing.
 use native.Mathlib.Omega.{arith}
 use lib.ListN.{length, length-take, take}
-use lib.Seq.{length-take-le}
 use Rattle.program.proofs.Bounds.{words-most}
 use Rattle.cableflow.proofs.BoundLaws.{export-bounds}
 use Rattle.exchange.proofs.export_as_bytes.Goals as goal
 
-pub slice_bounds-words-end : goal.slice_bounds-words-end
-slice_bounds-words-end c =
-    let w = c.words_of-n in
-    omega (arith, (words-most w.result c.args.bytes.now c.args.words.now w.ensures.count).0, w.auto.words)
-
 pub slice_bounds-export_some-end : goal.slice_bounds-export_some-end
 slice_bounds-export_some-end c =
     let w = c.words_of-n in
-    let few : w.result ≤ length w.new.words =
-    omega (arith, (words-most w.result c.args.bytes.now c.args.words.now w.ensures.count).0, w.auto.words) in
-    sym (length-take-le w.result w.new.words few)
+    omega (arith, (words-most w.result c.args.bytes.now c.args.words.now w.ensures.count).0, w.auto.words)
 
-pub overflow_mul-read : goal.overflow_mul-read
-overflow_mul-read c =
+pub overflow_mul-result : goal.overflow_mul-result
+overflow_mul-result c =
     let a = c.args in
     let w = c.words_of-n in
     let u = c.export_some-ran in

@@ -1,27 +1,17 @@
--- `exchange::import_as_bytes` meets its contract: the run reads no more bytes than it is given, sends no more words than
--- its output holds, and the bytes of those fit in the text. Assumes nothing.
-use mathlib.Core.Path.{sym}
+-- `exchange::import_as_bytes` meets its contract: the run reads no more bytes than it is given, sends no more words
+-- than its output holds, and the bytes of those fit in the text. Assumes nothing.
 use native.Mathlib.Omega.{arith}
 use lib.ListN.{length}
-use lib.Seq.{length-take-le}
 use Rattle.program.proofs.Bounds.{bytes_most}
 use Rattle.cableflow.proofs.BoundLaws.{import-bounds}
 use Rattle.exchange.proofs.import_as_bytes.Goals as goal
-
-pub slice_bounds-words-end : goal.slice_bounds-words-end
-slice_bounds-words-end c =
-    let a = c.args in
-    let u = c.import_some-ran in
-    (import-bounds a.group (length a.words.now) a.cable a.bytes.now a.words.now u.new.out u.result.imported u.auto.out
-    u.ensures.report u.ensures.output).1
 
 pub slice_bounds-bytes_of-end : goal.slice_bounds-bytes_of-end
 slice_bounds-bytes_of-end c =
     let a = c.args in
     let u = c.import_some-ran in
-    let z = import-bounds a.group (length a.words.now) a.cable a.bytes.now a.words.now u.new.out u.result.imported
-    u.auto.out u.ensures.report u.ensures.output in
-    sym (length-take-le u.result.imported.written u.new.out z.1)
+    (import-bounds a.group (length a.words.now) a.cable a.bytes.now a.words.now u.new.out u.result.imported u.auto.out
+    u.ensures.report u.ensures.output).1
 
 pub returns : goal.returns
 returns c =
