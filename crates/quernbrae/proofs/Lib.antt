@@ -1,9 +1,4 @@
 pub mod Said
-pub mod Asked
-pub mod Marked
-pub mod HandedOn
-pub mod HostHanded
-pub mod HostMarked
-pub mod ChainValues
-pub mod ChainCalls
+pub mod Marks
+pub mod ChainSlots
 pub mod ChainTurns

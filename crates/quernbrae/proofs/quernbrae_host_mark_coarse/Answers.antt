@@ -1,0 +1,21 @@
+-- `quernbrae::quernbrae_host_mark_coarse` meets its contract: a record that the host may mark is marked, and no other is
+-- read. Assumes nothing.
+use Rattle.std.proofs.Common.{◌≡◌, ◌∙◌, true, false, sym}
+use Rattle.quernbrae.proofs.Marks.{host-marked, host-unmarked}
+use Rattle.quernbrae.proofs.quernbrae_host_mark_coarse.Goals as goal
+
+pub returns-then-may_mark : goal.returns-then-may_mark
+returns-then-may_mark c =
+    let a = c.args in
+    let m = c.marking-marked in
+    let z = host-marked a.table.now a.group a.channel a.coarse a.host a.owners.now
+    (sym c.may_mark.ensures ∙ c.if-may_mark.true) c.place_asked-i.result c.place_asked-i.ensures _ m.result
+    m.ensures.answer m.ensures.after in
+    record { answer = z.0; table = z.1 }
+
+pub returns-else-may_mark : goal.returns-else-may_mark
+returns-else-may_mark c =
+    let a = c.args in
+    let z = host-unmarked a.table.now a.group a.channel a.coarse a.host a.owners.now
+    (sym c.may_mark.ensures ∙ c.if-may_mark.false) in
+    record { answer = c.unmarked.ensures ∙ z.0; table = z.1 }
