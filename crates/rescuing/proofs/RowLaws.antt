@@ -1,6 +1,6 @@
 -- A row that is written for a packet: where it has room and where not; and each step looks at its own packet alone and
 -- goes on only with a whole one. Assumes nothing.
-use Prim.Native.Nat.{ℕ, ◌+◌, ◌-◌, ◌<◌, ◌≤◌}
+use Prim.Native.Nat.{ℕ, ◌+◌, ◌-◌, ◌<◌}
 use mathlib.Core.Path.{◌≡◌, refl, sym, ◌∙◌}
 use mathlib.Core.List.{List, [], ◌∷◌}
 use native.Mathlib.Omega.{arith}
@@ -8,11 +8,11 @@ use native.Mathlib.Nat.{add-zero}
 use lib.Dec.{leb, leb-zero}
 use lib.ListN.{length, take}
 use lib.Seq.{sets-eq}
-use borrow.Author.Tests.{le-leb, leb-true, lt-leb, ne_eqb}
+use borrow.Author.Tests.{leb-true, ne_eqb}
 use Rattle.ground.specs.Store.{written}
 use Rattle.ground.proofs.Cases.{by_bool}
 use Rattle.ground.proofs.StoreLaws.{written_none}
-use Rattle.ump.specs.Packet.{packet, size}
+use Rattle.ump.specs.Packet.{size}
 use Rattle.ump.proofs.PacketLaws.{packet-near}
 use Rattle.stream.specs.declared.Done.{Done}
 use Rattle.stream.specs.Answers.{cut_packet, no_room, sent}
@@ -23,7 +23,7 @@ use Rattle.text.specs.Lines.{place_after, with_row}
 use Rattle.recording.specs.declared.Past.{Past}
 use Rattle.recording.specs.Recording.{kept_of, line_of, past_after, text_of}
 use Rattle.rescuing.specs.declared.Told.{Told}
-use Rattle.rescuing.specs.Rescue.{handed, keep, rowed, tell, turn_of}
+use Rattle.rescuing.specs.Rescue.{keep, rowed, tell, turn_of}
 
 pub keep-near : (t : Unit {0}) (w : ℕ) (s : List ℕ) → keep t (take (size w) (w ∷ s)) ≡ keep t (w ∷ s)
 unfolding keep
@@ -45,17 +45,6 @@ tell-inside t w s = packet-inside (λ p. rowed p (text_of (line_of t p)) (past_a
 module _ (d : Done) (p row out : List ℕ) where
   abbrev Kept : Call (ℕ × Unit {0}) → Done → List ℕ → Type 0
   Kept c r after = (r ≡ further d p c) × (after ≡ written d.written (sent_of c) out)
-
-  pub kept_goes : length row ≤ length out - d.written
-      → Kept (handed (length out - d.written) row)
-      (counting sent (d.read + length p) (d.written + length row)) (written d.written row out)
-  kept_goes h = rw (le-leb (length row) (length out - d.written) h) (refl, refl)
-
-  pub kept-stops : length out - d.written < length row
-      → Kept (handed (length out - d.written) row) (counting no_room d.read d.written) out
-  kept-stops h =
-      rw (lt-leb (length row) (length out - d.written) h)
-      (rw (add-zero d.read, add-zero d.written), sym (written_none d.written out))
 
   pub kept-none : row ≡ [] → (length p ≡ 0 → ⊥)
       → Kept (fit (length out - d.written) (rowed p row tt)) (counting sent (d.read + length p) d.written) out
@@ -109,9 +98,3 @@ module _ (t : Told) (p row text : List ℕ) (u : Past) where
   told-cut e =
       rw e
       (rw (add-zero t.done.read, add-zero t.done.written), sym (written_none t.done.written text))
-
--- one row and then another
-pub two-rows : (l l₁ l₂ x y : List ℕ) (to r : ℕ) → (to ≡ place_after l 0 x) × (l₁ ≡ with_row l 0 x)
-    → (r ≡ place_after l₁ to y) × (l₂ ≡ with_row l₁ to y)
-    → (r ≡ place_after (with_row l 0 x) (place_after l 0 x) y) × (l₂ ≡ with_row (with_row l 0 x) (place_after l 0 x) y)
-two-rows l l₁ l₂ x y to r p q = rw (p.0, p.1) at q

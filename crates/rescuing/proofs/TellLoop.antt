@@ -9,7 +9,6 @@ use Rattle.ump.specs.Packet.{packet}
 use Rattle.stream.specs.Answers.{sent}
 use Rattle.stream.specs.Call.{Call, read_of, sent_of, within}
 use Rattle.stream.specs.Report.{counting}
-use Rattle.stream.specs.Run.{run}
 use Rattle.stream.proofs.RunLoop.{DidRun, Runs, turn}
 use Rattle.recording.specs.declared.Past.{Past}
 use Rattle.rescuing.specs.declared.Told.{Told}
