@@ -5,7 +5,7 @@ use mathlib.Core.Path.{◌≡◌, refl, ap, ap₂, ◌∙◌}
 use mathlib.Core.Bool.{false}
 use mathlib.Core.Logic.{inl, inr}
 use mathlib.Core.List.{List, [], ◌∷◌}
-use Rattle.ground.specs.Lists.{All, joined}
+use Rattle.ground.specs.Lists.{All}
 use Rattle.ground.proofs.Cases.{by_bool, choose}
 use Rattle.ump.specs.Packet.{Whole, cut, first, packet}
 use Rattle.recording.specs.declared.Stamp.{Stamp}

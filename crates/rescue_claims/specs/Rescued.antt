@@ -5,13 +5,12 @@ use Rattle.ground.specs.Lists.{All, joined, sum}
 use Rattle.ump.specs.Packet.{Whole, cut, first, packet}
 use Rattle.stream.specs.Answers.{bad_data, bad_status, no_room, reserved_type, sent, wrong_protocol}
 use Rattle.stream.specs.Run.{run}
-use Rattle.recording.specs.declared.Stamp.{Stamp}
 use Rattle.recording.specs.declared.Past.{Past}
 use Rattle.recording.specs.declared.Line.{Line}
 use Rattle.recording.specs.declared.Line.TheVariants.{Nothing, Drop, Ticks, Bytes, Answer}
 use Rattle.recording.specs.Recording.{cut_line, found, header, header_answer, is_stamp, line_kept, passes, past_after}
 use Rattle.recording.specs.Recording.{stamp_of, start, text_of, ticks_between}
-use Rattle.rescuing.specs.Rescue.{keep, run_keep, run_tell, tell}
+use Rattle.rescuing.specs.Rescue.{run_keep, run_tell, tell}
 
 -- 02 M-109: of the pieces of a stream, those that are kept; a cut one is not
 unfoldable pub kept_packets : List (List ℕ) → List (List ℕ)
