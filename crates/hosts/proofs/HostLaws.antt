@@ -55,7 +55,7 @@ bit_below host owners (suc n) g h =
     by_bool (eqb g n)
     (λ e. let q = eqb-true g n e in
     by_bool (owns host owners n) (λ o. rw (q, o) (with-same G n))
-        (λ o. rw (q, o) (none_above host owners n n (omega arith))))
+    (λ o. rw (q, o) (none_above host owners n n (omega arith))))
     (λ e. let q = eqb-false g n e in
     let ih = bit_below host owners n g (omega (arith, q)) in
     choose (λ (x : ℕ). bit x g ≡ owns host owners g) (owns host owners n) (λ _. with-other G n g q ∙ ih) (λ _. ih))
