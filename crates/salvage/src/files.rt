@@ -69,6 +69,12 @@ fn make_new<H: Files>(files: &H, new: &[u8]) -> io::Result<H::File> {
         .open(files, name)
 }
 
+// Whether a file cannot be waited for where it stands, which says nothing of what was written.
+fn is_no_wait(error: &Error) -> bool {
+    let kind = error.kind();
+    (kind == ErrorKind::InvalidInput) | (kind == ErrorKind::Unsupported)
+}
+
 // Fills the new file. What is written of it only later is waited for, so that a failure can be said.
 fn rescue_between<F: Read + Write + OpenFile + Drop, W: Write, E: Write>(
     from: F,
@@ -82,7 +88,9 @@ fn rescue_between<F: Read + Write + OpenFile + Drop, W: Write, E: Write>(
     let mut ends = Streams::new(from, clean, &mut *errors);
     rescue_rest(&mut ends, output, names, begun, bytes);
     if let Err(error) = ends.output.sync_all() {
-        ports::say_failed(&mut *ends.errors, names.new, &error);
+        if !is_no_wait(&error) {
+            ports::say_failed(&mut *ends.errors, names.new, &error);
+        }
     }
 }
 
