@@ -1,6 +1,5 @@
 pub mod Bools
 pub mod Cases
-pub mod More
 pub mod Tests
 pub mod ListLaws
 pub mod StoreLaws
