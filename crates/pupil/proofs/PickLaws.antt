@@ -7,21 +7,19 @@ use mathlib.Core.List.{List, [], ◌∷◌}
 use native.Mathlib.Omega.{arith}
 use native.Mathlib.Nat.{add-zero}
 use lib.Dec.{leb-zero}
-use lib.ListN.{length, set, take}
+use lib.ListN.{length, set}
 use lib.Seq.{sets-eq}
 use borrow.Author.Tests.{le-leb, lt-leb, ne_eqb}
 use Rattle.ground.specs.Store.{written}
 use Rattle.ground.proofs.StoreLaws.{written_none}
 use Rattle.ump.specs.Word.{message_type, voice1}
 use Rattle.ump.specs.Packet.{first, size}
-use Rattle.ump.proofs.PacketLaws.{packet-near, size-by}
+use Rattle.ump.proofs.PacketLaws.{size-by}
 use Rattle.stream.specs.declared.Done.{Done}
 use Rattle.stream.specs.Answers.{cut_packet, no_room, sent, taken_in}
 use Rattle.stream.specs.Call.{fit, sent_of}
 use Rattle.stream.specs.Report.{counting, further}
-use Rattle.stream.proofs.RunLoop.{Inside, packet-inside}
-use Rattle.stream.proofs.Stateless.{So}
-use Rattle.pupil.specs.Only.{handed_at, pick, picked, voice_on}
+use Rattle.pupil.specs.Only.{handed_at, picked, voice_on}
 
 -- a MIDI 1.0 voice message has one word
 pub voice-size : (w : ℕ) → message_type w ≡ voice1 → size w ≡ 1
@@ -30,20 +28,6 @@ voice-size w e = size-by w voice1 e
 -- what is no MIDI 1.0 voice message is none of a channel
 pub no-voice : (group channel w : ℕ) → (message_type w ≡ voice1 → ⊥) → voice_on group channel w ≡ false
 no-voice group channel w n = rw (ne_eqb (message_type w) voice1 n)
-
-module _ (group channel : ℕ) where
-  pub pick-near : (t : Unit {0}) (w : ℕ) (s : List ℕ)
-      → pick group channel t (take (size w) (w ∷ s)) ≡ pick group channel t (w ∷ s)
-  unfolding pick
-  pick-near t w s = rw (packet-near w s)
-
-  pub pick-inside : (t : Unit {0}) (w : ℕ) (s : List ℕ) → Inside (w ∷ s) (pick group channel t (w ∷ s))
-  unfolding pick
-  pick-inside t w s = packet-inside (picked group channel) refl w s
-
-  -- what was done, and then the run from here, is the whole run
-  abbrev pub Picks : List ℕ → List ℕ → List ℕ → ℕ → ℕ → Type 0
-  Picks ws out₀ out i n = So (pick group channel) pick-near pick-inside ws out₀ out i n
 
 -- a word that is handed back, and one that has no room
 module _ (d : Done) (w : ℕ) (out : List ℕ) where

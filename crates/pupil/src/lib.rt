@@ -11,11 +11,12 @@ ghost use Rattle.ump.specs.Packet.{cut, packet};
 ghost use Rattle.stream.specs.Call.{sent_of, within};
 ghost use Rattle.stream.specs.Report.{further, reported};
 ghost use Rattle.stream.specs.Run.{run};
-ghost use Rattle.pupil.specs.Only.{handed_at, pick, pick_at, voice_on};
+ghost use Rattle.pupil.specs.Only.{handed_at, pick_at, voice_on};
+ghost use Rattle.pupil.specs.Picking.{picking, picking-own};
 ghost use Rattle.pupil.specs.Only;
 
 use question::is_in_range;
-use stream::{CUT, Done, NO_ROOM, OUT_OF_RANGE, SENT, TAKEN_IN, report};
+use stream::{CUT, Calls, Done, NO_ROOM, OUT_OF_RANGE, SENT, TAKEN_IN, report, run_calls};
 use ump::{MIDI1_VOICE, channel_of, group_of, message_type, size};
 
 // Whether a packet is a MIDI 1.0 voice message of that group and channel, by its first word.
@@ -70,25 +71,25 @@ fn pick_next(words: &[u32], group: u8, channel: u8, past: Done, out: &mut [u32])
     }
 }
 
-// Every packet of the words, until one stops the run.
-fn run_only(words: &[u32], group: u8, channel: u8, out: &mut [u32]) -> Done
-    ensures report { result
-        ≡ reported (run (within (pick group channel)) (length out.old, tt) (cut words.now)) }
-    ensures output { out.new ≡ at_start
-        (run (within (pick group channel)) (length out.old, tt) (cut words.now)).sends
-        out.old }
-{
-    let mut read: usize = 0;
-    let mut written: usize = 0;
-    while read < words.len() {
-        let done = pick_next(words, group, channel, report(SENT, read, written), out);
-        if done.read == read {
-            return report(done.answer, read, done.written);
-        }
-        read = done.read;
-        written = done.written;
+// The channel whose packets are picked, by its group and its own number.
+#[derive(Clone, Copy)]
+struct Pick {
+    group: u8,
+    channel: u8,
+}
+
+impl Calls for Pick {
+    type Written = u32;
+
+    ghost numbers = { λ words. words };
+
+    ghost step = { picking };
+
+    fn call(&mut self, words: &[u32], past: Done, out: &mut [u32]) -> Done {
+        pick_next(words, self.group, self.channel, past, out)
     }
-    report(SENT, read, written)
+
+    ghost own_packet = { picking-own };
 }
 
 // The MIDI 1.0 voice messages of a group and channel, out of the words into the output.
@@ -99,7 +100,7 @@ pub fn only(words: &[u32], group: u8, channel: u8, out: &mut [u32]) -> Done
         (Only.only group channel (length out.old) words.now).sends out.old }
 {
     if is_in_range(group, channel) {
-        run_only(words, group, channel, out)
+        run_calls(&mut Pick { group, channel }, words, out)
     } else {
         report(OUT_OF_RANGE, 0, 0)
     }

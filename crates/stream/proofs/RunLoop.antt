@@ -16,6 +16,7 @@ use Rattle.ground.proofs.StoreLaws.{written_none}
 use Rattle.ump.specs.Packet.{cut, first, packet, size}
 use Rattle.ump.proofs.PacketLaws.{cut_at, cut-end, packet-size, size-range}
 use Rattle.stream.specs.Answers.{cut_packet, no_room, sent}
+pub use Rattle.stream.specs.Calls.{Inside}
 use Rattle.stream.specs.Call.{Call, answer_of, fit, left_of, read_of, sent_of, stopped, went, within}
 use Rattle.stream.specs.Report.{counting, reported}
 use Rattle.stream.specs.Run.{Ran, run, then_run}
@@ -42,11 +43,6 @@ pub record DidRun {T : Type 0} (r : Ran (ℕ × T)) (out : List ℕ) (answer rea
 pub reports : {T : Type 0} {r : Ran (ℕ × T)} {out out' : List ℕ} {a i n : ℕ} {t : T} → DidRun r out a i n t out'
     → counting a i n ≡ reported r
 reports d = rw (d.answers, d.reads, d.writes)
-
--- a call that goes on has a whole packet among the words s
-abbrev pub Inside : {T : Type 0} → List ℕ → Call T → Type 0
-Inside s (went a ws u) = (length (packet s) ≡ size (first s)) × (size (first s) ≤ length s)
-Inside s (stopped a) = Unit {0}
 
 -- what stops where no packet is whole goes on only with a whole one
 pub packet-inside : {T : Type 0} (act : List ℕ → Call T) → act [] ≡ stopped cut_packet → (w : ℕ) (s : List ℕ)

@@ -12,7 +12,8 @@ use Rattle.stream.specs.Answers.{sent}
 use Rattle.stream.specs.Call.{Call, read_of, sent_of, within}
 use Rattle.stream.specs.Report.{counting, further}
 use Rattle.stream.specs.Run.{run}
-use Rattle.stream.proofs.RunLoop.{DidRun, Inside, Runs, turn}
+use Rattle.stream.specs.Calls.{Inside}
+use Rattle.stream.proofs.RunLoop.{DidRun, Runs, turn}
 
 module _
     (step : Unit {0} → List ℕ → Call (Unit {0}))

@@ -4,3 +4,4 @@ pub mod Run
 pub mod Report
 pub mod Claims
 pub mod Cases
+pub mod Calls

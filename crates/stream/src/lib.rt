@@ -5,8 +5,12 @@
 // any step and any state, with its laws beside it in proofs/.
 #![tactic(auto)]
 
+mod calls;
+
 ghost use Rattle.std.specs.Prelude.{◌≡◌};
 ghost use Rattle.stream.specs.Report.{counting, placing};
+
+pub use calls::{Calls, run_calls};
 
 // Sent; of a run: finished.
 pub const SENT: u32 = 0;
