@@ -17,13 +17,14 @@ use Rattle.screen.specs.declared.Rule.{Rule}
 use Rattle.fields.specs.Check.{checked_fields, good_fields, good_status, good_unchanged, unchanged, voice2_fields}
 use Rattle.screen.specs.Screen.{admitted, answering, for_beginners, goes_on, outside, reserved, ruled, screen_by}
 use Rattle.screen.specs.Downward.{lets_down}
-use Rattle.screen.proofs.ScreenLaws.{unchanged-free}
+use Rattle.screen.proofs.ScreenLaws.{unchanged-free, unfenced}
+use Rattle.std.specs.Prelude.{is_some}
 
 -- a rule that asks nothing lets everything pass
 pub unruled-lets : (rule : Rule) (w : ℕ) → ruled rule ≡ false → lets_down rule w ≡ true
 unfolding lets_down outside
 unruled-lets rule w e =
-    rw (neither_left rule.beginners rule.fenced e, neither_right rule.beginners rule.fenced e)
+    rw (neither_left rule.beginners (is_some rule.fence) e, unfenced rule.fence w (neither_right rule.beginners (is_some rule.fence) e))
 
 -- what is for the beginners' room of all that is no MIDI 1.0 voice message
 room-down : (rule : Rule) (w : ℕ) → (message_type w ≡ voice1 → ⊥)

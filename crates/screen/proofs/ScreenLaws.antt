@@ -20,14 +20,20 @@ use Rattle.stream.specs.Report.{place_told}
 use Rattle.screen.specs.declared.Rule.{Rule}
 use Rattle.screen.specs.declared.Screened.{Screened}
 use Rattle.fields.specs.Check.{Field, bad_place, bad_place_of, checked_fields, good_fields, good_status, unchanged}
-use Rattle.screen.specs.Screen.{admitted, answering, beginners_rule, check_voice1, checking, for_beginners}
+use Rattle.std.specs.Prelude.{Option, Some, None, is_some}
+use Rattle.screen.specs.Screen.{beyond, admitted, answering, beginners_rule, check_voice1, checking, for_beginners}
 use Rattle.screen.specs.Screen.{fenced_rule, goes_on, outside, reserved, ruled, screen, screen_by, screen_voice1, screened}
+
+-- no packet lies outside where there is no fence
+pub unfenced : (fence : Option ℕ) (w : ℕ) → is_some fence ≡ false → beyond fence w ≡ false
+unfenced None w e = refl
+unfenced (Some groups) w e = absurd (true≢false e)
 
 -- a rule that asks nothing is the open one
 pub unruled : (rule : Rule) (wrong : ℕ) (p : List ℕ) → ruled rule ≡ false → screen_by rule wrong p ≡ screen wrong p
 unfolding screen_by outside admitted
 unruled rule wrong p e =
-    rw (neither_left rule.beginners rule.fenced e, neither_right rule.beginners rule.fenced e)
+    rw (neither_left rule.beginners (is_some rule.fence) e, unfenced rule.fence (first p) (neither_right rule.beginners (is_some rule.fence) e))
 
 -- a MIDI 1.0 voice message, going up: by its one word, without a rule and with any
 pub screen-voice1 : (w : ℕ) → message_type w ≡ 2 → screen voice2 (w ∷ []) ≡ check_voice1 w

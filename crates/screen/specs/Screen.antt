@@ -1,6 +1,6 @@
 -- The screening of a packet: the refusals before the act, in the order of RULES 3.2, with the rules of a room and of
 -- a fence.
-use Rattle.std.specs.Prelude.{ℕ, Bool, true, false, cond, not, ◌&&◌, ◌||◌, List, [], ◌∷◌, length, eqb, leb}
+use Rattle.std.specs.Prelude.{ℕ, Bool, true, false, cond, not, ◌&&◌, ◌||◌, List, [], ◌∷◌, length, eqb, leb, Option, Some, None, is_some}
 use Rattle.ump.specs.Word.{bits, data1, group_of, message_type, status, voice1, voice2}
 use Rattle.ump.specs.Packet.{first, second}
 use Rattle.stream.specs.Answers.{bad_data, bad_status, cut_packet, not_for_room, not_yours, reserved_type, wrong_protocol}
@@ -20,13 +20,13 @@ goes_on = 0
 -- The rules: nothing is asked of a packet beyond the check; that of the beginners' room (RULES 2.5; 02 M-113); and that
 -- of a fence, behind which lie the groups whose bits are set in a number (RULES 2.6; 02 M-107).
 abbrev pub open_rule : Rule
-open_rule = record { beginners = false; fenced = false; groups = 0 }
+open_rule = record { beginners = false; fence = None }
 
 abbrev pub beginners_rule : Rule
-beginners_rule = record { beginners = true; fenced = false; groups = 0 }
+beginners_rule = record { beginners = true; fence = None }
 
 abbrev pub fenced_rule : ℕ → Rule
-fenced_rule groups = record { beginners = false; fenced = true; groups = groups }
+fenced_rule groups = record { beginners = false; fence = Some groups }
 
 -- the message types whose packets have a group
 abbrev pub grouped : ℕ → Bool
@@ -36,9 +36,13 @@ grouped t = (leb 1 t && leb t 5) || eqb t 13
 abbrev pub group_bit : ℕ → ℕ → Bool
 group_bit groups g = eqb (bits g 1 groups) 1
 
--- a packet that has a group, and not one that the rule lets pass, by its first word
+-- a packet that has a group, and not one that lies behind the fence, by its first word
+abbrev pub beyond : Option ℕ → ℕ → Bool
+beyond None w = false
+beyond (Some groups) w = grouped (message_type w) && not (group_bit groups (group_of w).0)
+
 unfoldable pub outside : Rule → ℕ → Bool
-outside rule w = rule.fenced && grouped (message_type w) && not (group_bit rule.groups (group_of w).0)
+outside rule w = beyond rule.fence w
 
 -- the controllers of that room
 abbrev pub beginners_controller : ℕ → Bool
@@ -91,7 +95,7 @@ unfoldable pub check_voice1 : ℕ → Screened
 check_voice1 w = checking (voice1_status w) (voice1_fields w) goes_on
 
 abbrev pub ruled : Rule → Bool
-ruled rule = rule.beginners || rule.fenced
+ruled rule = rule.beginners || is_some rule.fence
 
 unfoldable pub screen_voice1 : Rule → ℕ → Screened
 screen_voice1 rule w = cond (ruled rule) (screen_by rule voice2 (w ∷ [])) (check_voice1 w)

@@ -32,12 +32,11 @@ pub const GOES_ON: u32 = 0;
 pub const NEITHER_TYPE: u32 = 16;
 
 // What is asked of a packet besides: of a good one whether it is for the beginners' room; and of one
-// with a group whether that lies behind the fence, where the bits of `groups` are set.
+// with a group whether that lies behind the fence, if there is one: its number has the bits of such groups.
 #[derive(Clone, Copy)]
 pub struct Rule {
     pub beginners: bool,
-    pub fenced: bool,
-    pub groups: u32,
+    pub fence: Option<u32>,
 }
 
 // Nothing is asked besides.
@@ -46,8 +45,7 @@ pub fn open_rule() -> Rule
 {
     Rule {
         beginners: false,
-        fenced: false,
-        groups: 0,
+        fence: None,
     }
 }
 
@@ -74,13 +72,13 @@ fn has_group(groups: u32, group: Group) -> bool
 }
 
 // Whether a packet lies outside the fence, by its first word.
+#[tactic(auto, unfolding(crate::specs::Screen::outside))]
 fn is_outside(rule: Rule, w: u32) -> bool
     ensures { result ≡ outside rule w }
 {
-    if rule.fenced {
-        is_grouped(message_type(w)) & !has_group(rule.groups, ump::group_of(w))
-    } else {
-        false
+    match rule.fence {
+        None => false,
+        Some(groups) => is_grouped(message_type(w)) & !has_group(groups, ump::group_of(w)),
     }
 }
 
@@ -189,7 +187,7 @@ pub fn screen_by(rule: Rule, wrong: u32, packet: &[u32]) -> Screened
 pub fn is_ruled(rule: Rule) -> bool
     ensures { result ≡ ruled rule }
 {
-    rule.beginners | rule.fenced
+    rule.beginners | rule.fence.is_some()
 }
 
 // Whether a rule lets a packet pass that goes down, by its first word. Of those only MT 0 is for the beginners' room.
