@@ -18,7 +18,7 @@ use Rattle.stream.specs.Answers.{taken_in, wrong_protocol}
 use Rattle.stream.specs.Call.{Call, refused}
 use Rattle.stream.specs.Report.{place_told}
 use Rattle.screen.specs.declared.Rule.{Rule}
-use Rattle.screen.specs.declared.Screened.{Screened}
+use Rattle.screen.specs.Screen.{Screened}
 use Rattle.fields.specs.Check.{Field, bad_place, bad_place_of, checked_fields, good_fields, good_status, unchanged}
 use Rattle.std.specs.Prelude.{Option, Some, None, is_some}
 use Rattle.screen.specs.Screen.{beyond, admitted, answering, beginners_rule, check_voice1, checking, for_beginners}

@@ -1,13 +1,18 @@
 -- The screening of a packet: the refusals before the act, in the order of RULES 3.2, with the rules of a room and of
 -- a fence.
-use Rattle.std.specs.Prelude.{ℕ, Bool, true, false, cond, not, ◌&&◌, ◌||◌, List, [], ◌∷◌, length, eqb, leb, Option, Some, None, is_some}
+use Rattle.std.specs.Prelude.{ℕ, Bool, true, false, cond, not, ◌&&◌, ◌||◌, List, [], ◌∷◌, length, eqb, leb, Option, Some, None, Result, Ok, Err, is_some}
 use Rattle.ump.specs.Word.{bits, data1, group_of, message_type, status, voice1, voice2}
 use Rattle.ump.specs.Packet.{first, second}
 use Rattle.stream.specs.Answers.{bad_data, bad_status, cut_packet, not_for_room, not_yours, reserved_type, wrong_protocol}
 use Rattle.stream.specs.Call.{Call, refused}
 use Rattle.screen.specs.declared.Rule.{Rule}
-use Rattle.screen.specs.declared.Screened.{Screened}
+use Rattle.screen.specs.declared.Refusal.{Refusal}
 use Rattle.fields.specs.Check.{Field, bad_place, checked_fields, good_status, voice1_fields, voice1_status}
+
+-- What a packet is screened with: an answer, and the place of the first bad field, which is 0 with every answer but 7.
+pub record Screened : Type 0 where
+  pub answer : ℕ
+  pub place : ℕ
 
 -- a screening by its answer, without a place
 abbrev pub answering : ℕ → Screened
@@ -16,6 +21,10 @@ answering a = record { answer = a; place = 0 }
 -- the packet goes on to the act
 abbrev pub goes_on : ℕ
 goes_on = 0
+
+-- what that is as a result: nothing where the packet goes on, and else what refuses it
+abbrev pub judged : Screened → Result (Unit {0}) Refusal
+judged s = cond (eqb s.answer goes_on) (Ok tt) (Err (record { answer = s.answer; place = s.place }))
 
 -- The rules: nothing is asked of a packet beyond the check; that of the beginners' room (RULES 2.5; 02 M-113); and that
 -- of a fence, behind which lie the groups whose bits are set in a number (RULES 2.6; 02 M-107).
@@ -75,6 +84,11 @@ checking status_good fs good = cond (not status_good) (answering bad_status) (pl
 -- no message type: where this is the wrong one, voice messages of both protocols pass
 abbrev pub neither_type : ℕ
 neither_type = 16
+
+-- the message type that is the wrong one, where there is one
+abbrev pub wrong_of : Option ℕ → ℕ
+wrong_of None = neither_type
+wrong_of (Some t) = t
 
 -- Of a packet, or of the empty part where none is whole; `wrong` is the message type of the other protocol's voice
 -- messages.

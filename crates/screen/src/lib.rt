@@ -10,26 +10,20 @@ ghost use Rattle.fields.specs.Check.{checked_fields, good_status};
 ghost use Rattle.screen.specs.Screen.{admitted, answering, beginners_controller};
 ghost use Rattle.screen.specs.Screen.{check_voice1, checking, for_beginners, group_bit, grouped};
 ghost use Rattle.screen.specs.Screen.{open_rule, outside, placed, reserved, screen_by};
-ghost use Rattle.screen.specs.Screen.{ruled, screen_voice1};
+ghost use Rattle.screen.specs.Screen.{goes_on, judged, ruled, screen_voice1, wrong_of};
 ghost use Rattle.screen.specs.Downward.{lets_down};
 ghost use Rattle.screen.specs.Screen;
 
 use stream::{BAD_DATA, BAD_STATUS, CUT, NOT_FOR_ROOM, NOT_YOURS, RESERVED, WRONG_PROTOCOL};
 use ump::{Group, MIDI1_VOICE, MIDI2_VOICE, message_type, word_at};
 
-// What the screening finds of a packet: the answer that refuses it, or `GOES_ON`; and the place of the
-// first bad field, which is 0 with every answer but `BAD_DATA`.
-#[derive(Clone, Copy)]
-pub struct Screened {
+// What refuses a packet before it acts: the answer, and the place of the first bad field, which is 0 with
+// every answer but `BAD_DATA`.
+#[derive(Clone, Copy, PartialEq, Eq)]
+pub struct Refusal {
     pub answer: u32,
     pub place: u32,
 }
-
-// The packet goes on to the act.
-pub const GOES_ON: u32 = 0;
-
-// No message type: where this is the wrong one, voice messages of both protocols pass.
-pub const NEITHER_TYPE: u32 = 16;
 
 // What is asked of a packet besides: of a good one whether it is for the beginners' room; and of one
 // with a group whether that lies behind the fence, if there is one: its number has the bits of such groups.
@@ -99,86 +93,84 @@ fn is_for_beginners(w: u32) -> bool
     (t == 0) | ((t == MIDI1_VOICE) & voice)
 }
 
-// What a good packet is answered with under a rule.
-fn admit(rule: Rule, w: u32) -> u32
-    ensures { result ≡ admitted rule w }
-{
-    if rule.beginners {
-        if is_for_beginners(w) {
-            GOES_ON
-        } else {
-            NOT_FOR_ROOM
-        }
-    } else {
-        GOES_ON
+impl Refusal {
+    // Without a place.
+    fn by(answer: u32) -> Refusal
+        ensures { result ≡ record { answer = answer; place = 0 } }
+    {
+        Refusal { answer, place: 0 }
     }
 }
 
-fn finding(answer: u32) -> Screened
-    ensures { result ≡ answering answer }
+// Whether a rule lets a good packet pass.
+#[tactic(auto, unfolding(crate::specs::Screen::admitted))]
+fn admit(rule: Rule, w: u32) -> Result<(), Refusal>
+    ensures { result ≡ judged (answering (admitted rule w)) }
 {
-    Screened { answer, place: 0 }
+    if rule.beginners && !is_for_beginners(w) {
+        return Err(Refusal::by(NOT_FOR_ROOM));
+    }
+    Ok(())
 }
 
-// By the place of the first bad field, and the answer where there is none.
-fn finding_place(place: u32, good: u32) -> Screened
-    ensures { result ≡ placed place good }
+// By the place of the first bad field, which is 0 where there is none.
+fn no_bad_field(place: u32) -> Result<(), Refusal>
+    ensures { result ≡ judged (placed place goes_on) }
 {
     if place == 0 {
-        finding(good)
-    } else {
-        Screened {
-            answer: BAD_DATA,
-            place,
-        }
+        return Ok(());
     }
+    Err(Refusal {
+        answer: BAD_DATA,
+        place,
+    })
 }
 
 // A packet by its first two words, the second 0 where it has one word.
-fn check(rule: Rule, w: u32, v: u32) -> Screened
-    ensures { result ≡ checking (good_status w) (checked_fields w v) (admitted rule w) }
+fn check(rule: Rule, w: u32, v: u32) -> Result<(), Refusal>
+    ensures { result ≡ judged (checking (good_status w) (checked_fields w v) (admitted rule w)) }
 {
-    if fields::is_good_status(w) {
-        finding_place(fields::bad_place(w, v), admit(rule, w))
-    } else {
-        finding(BAD_STATUS)
+    if !fields::is_good_status(w) {
+        return Err(Refusal::by(BAD_STATUS));
     }
+    no_bad_field(fields::bad_place(w, v))?;
+    admit(rule, w)
 }
 
 // A MIDI 1.0 voice message by its one word, where no rule asks anything: the check that the translation
 // upward asks most. The place is worked out only where a field is bad.
-fn check_voice1(w: u32) -> Screened
-    ensures { result ≡ check_voice1 w }
+#[tactic(auto, unfolding(crate::specs::Screen::check_voice1))]
+fn check_voice1(w: u32) -> Result<(), Refusal>
+    ensures { result ≡ judged (check_voice1 w) }
 {
-    if fields::is_voice1_status(w) {
-        if fields::is_good_voice1(w) {
-            finding(GOES_ON)
-        } else {
-            finding_place(fields::bad_place_voice1(w), GOES_ON)
-        }
-    } else {
-        finding(BAD_STATUS)
+    if !fields::is_voice1_status(w) {
+        return Err(Refusal::by(BAD_STATUS));
     }
+    if fields::is_good_voice1(w) {
+        return Ok(());
+    }
+    no_bad_field(fields::bad_place_voice1(w))
 }
 
-// A packet, or the empty part where none is whole, where voice messages of the type `wrong` are
+// A packet, or the empty part where none is whole, where voice messages of the type `wrong`, if one is given, are
 // refused, under a rule.
-pub fn screen_by(rule: Rule, wrong: u32, packet: &[u32]) -> Screened
-    ensures { result ≡ screen_by rule wrong packet.now }
+#[tactic(auto, unfolding(crate::specs::Screen::screen_by))]
+pub fn screen_by(rule: Rule, wrong: Option<u32>, packet: &[u32]) -> Result<(), Refusal>
+    ensures { result ≡ judged (screen_by rule (wrong_of wrong) packet.now) }
 {
-    if packet.len() == 0 {
-        return finding(CUT);
+    if packet.is_empty() {
+        return Err(Refusal::by(CUT));
     }
     let w = word_at(packet, 0);
     let t = message_type(w);
     if is_reserved(t) {
-        return finding(RESERVED);
+        return Err(Refusal::by(RESERVED));
     }
-    if t == wrong {
-        return finding(WRONG_PROTOCOL);
+    if wrong == Some(t) {
+        return Err(Refusal::by(WRONG_PROTOCOL));
     }
     if is_outside(rule, w) {
-        return finding(NOT_YOURS);
+        return Err(Refusal::by(NOT_YOURS));
     }
     check(rule, w, word_at(packet, 1))
 }
@@ -202,20 +194,20 @@ pub fn lets_down(rule: Rule, w: u32) -> bool
 }
 
 // A MIDI 1.0 voice message going up under a rule, by its one word.
-pub fn screen_voice1(rule: Rule, w: u32) -> Screened
-    ensures { result ≡ screen_voice1 rule w }
+#[tactic(auto, unfolding(crate::specs::Screen::screen_voice1))]
+pub fn screen_voice1(rule: Rule, w: u32) -> Result<(), Refusal>
+    ensures { result ≡ judged (screen_voice1 rule w) }
 {
     if is_ruled(rule) {
-        let one = [w];
-        screen_by(rule, MIDI2_VOICE, &one)
+        screen_by(rule, Some(MIDI2_VOICE), &[w])
     } else {
         check_voice1(w)
     }
 }
 
 // The same where no rule holds.
-pub fn screen(wrong: u32, packet: &[u32]) -> Screened
-    ensures { result ≡ Screen.screen wrong packet.now }
+pub fn screen(wrong: Option<u32>, packet: &[u32]) -> Result<(), Refusal>
+    ensures { result ≡ judged (Screen.screen (wrong_of wrong) packet.now) }
 {
     screen_by(open_rule(), wrong, packet)
 }
