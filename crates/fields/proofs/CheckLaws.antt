@@ -1,17 +1,20 @@
 -- Laws of the check: when a field and those behind it are good; the fields of an exclusive by its count; and where the
 -- first bad field of a list stands. Assumes nothing.
 use Prim.Native.Nat.{ℕ, zero, suc, ◌+◌, ◌<◌}
-use mathlib.Core.Path.{◌≡◌, refl, sym, ap, ◌∙◌}
-use mathlib.Core.Bool.{Bool, true, false, true≢false, cond, ◌&&◌, ◌||◌}
+use mathlib.Core.Path.{◌≡◌, refl, ap, ◌∙◌}
+use mathlib.Core.Bool.{Bool, true, false, cond, ◌&&◌, ◌||◌}
 use mathlib.Core.List.{List, [], ◌∷◌, map}
 use native.Mathlib.Omega.{arith}
-use lib.ListN.{get_or, take}
+use lib.ListN.{drop, get_or, length, take}
+use lib.Seq.{drop-cons}
+use Rattle.std.proofs.Common.{add-one, ◌≤◌}
+use Rattle.std.proofs.Math.ListN.{drop_of_length-le}
 use lib.Dec.{eqb, leb, ltb}
-use borrow.Author.Tests.{leb-true, lt-leb, ne_eqb}
-use Rattle.ground.proofs.Bools.{and-false, and_left, and-true}
+use borrow.Author.Tests.{lt-leb, ne_eqb}
+use Rattle.ground.proofs.Bools.{and-true}
 use Rattle.ground.proofs.Cases.{by_bool}
-use Rattle.ump.specs.Word.{byte3, byte4, status}
-use Rattle.fields.specs.Check.{Field, FirstBad, bad_place, behind, good, good_fields, seven, voice2_fields}
+use Rattle.std.specs.Prelude.{Some}
+use Rattle.fields.specs.Check.{Field, FirstBad, bad_place, behind, good, good_fields, place_found, seven}
 
 -- the place of the first that is bad in a row of fields, by their tests; there is none exactly where all are good
 place_in : List Bool → ℕ
@@ -105,36 +108,28 @@ all-good (f ∷ fs) e i = by_bool (good f) (λ g. go g i (λ p j. all-good fs p 
     go g zero ih p = g
     go g (suc i) ih p = ih p i
 
-pub three-good : (a b c : Bool) → eqb (cond a (behind (cond b (behind (cond c (behind 0) 1)) 1)) 1) 0 ≡ (a && (b && c))
-unfolding place_in all_in
-three-good a b c = all_in_lem (a ∷ b ∷ c ∷ []) ∙ simp and-true
+-- the place of the first bad byte in a row, where those below i are good
+abbrev pub passed : ℕ → ℕ → ℕ
+passed i n = cond (eqb n 0) 0 (i + n)
 
--- a number of which a test holds is none of which it does not
-pub unlike : (test : ℕ → Bool) (s k : ℕ) → test s ≡ true → test k ≡ false → eqb s k ≡ false
-unlike test s k h n = ne_eqb s k (λ q. true≢false (sym h ∙ ap test q ∙ n))
+pub passed-good : (i n : ℕ) → passed i (behind n) ≡ passed (i + 1) n
+passed-good i n = by_bool (eqb n 0) (λ e. rw e) (λ e. rw (e, ne_eqb (n + 1) 0 (λ q. omega (arith, q))) (omega arith))
 
--- the statuses of MIDI 2.0 voice that are asked for first: notes, poly pressure and controllers, 8 to 11
-abbrev first-asked : ℕ → Bool
-first-asked s = leb 8 s && leb s 11
+-- the bytes from i on: the first of them is good or bad, or there are none
+module _ (bs : List ℕ) (i : ℕ) where
+  pub from-good : i < length bs → leb (get_or bs i 0) 127 ≡ true
+      → bad_place (map seven (drop i bs)) ≡ behind (bad_place (map seven (drop (i + 1) bs)))
+  unfolding bad_place
+  from-good h g = rw (add-one, drop-cons bs i 0 h, g)
 
-pub keyed-status : (s : ℕ) → first-asked s ≡ true
-    → (eqb s 7 ≡ false) × ((leb 2 s && leb s 5) ≡ false) × (eqb s 12 ≡ false) × ((eqb s 13 || eqb s 14) ≡ false)
-keyed-status s h =
-    let low = leb-true 8 s (and_left (leb 8 s) (leb s 11) h) in (
-      unlike first-asked s 7 h refl,
-      rw (lt-leb s 5 (omega (arith, low)), and-false (leb 2 s)),
-      unlike first-asked s 12 h refl,
-      rw (unlike first-asked s 13 h refl, unlike first-asked s 14 h refl),
-    )
+  pub from-bad : i < length bs → leb (get_or bs i 0) 127 ≡ false → bad_place (map seven (drop i bs)) ≡ 1
+  unfolding bad_place
+  from-bad h g = rw (drop-cons bs i 0 h, g)
 
--- the fields of those that have a bank and an index, and of those that have a note
-module _ (w v : ℕ) where
-  pub bank-fields : (leb 2 (status w) && leb (status w) 5) ≡ true
-      → good_fields (voice2_fields w v) ≡ (leb (byte3 w) 127 && leb (byte4 w) 127)
-  unfolding bad_place voice2_fields
-  bank-fields h = rw h (both-good (leb (byte3 w) 127) (leb (byte4 w) 127))
+  pub from-none : length bs ≤ i → bad_place (map seven (drop i bs)) ≡ 0
+  unfolding bad_place
+  from-none h = rw (drop_of_length-le bs h)
 
-  pub note-fields : (leb 2 (status w) && leb (status w) 5) ≡ false → eqb (status w) 12 ≡ false
-      → (eqb (status w) 13 || eqb (status w) 14) ≡ false → good_fields (voice2_fields w v) ≡ leb (byte3 w) 127
-  unfolding bad_place voice2_fields
-  note-fields a b c = rw (a, b, c) (one-good (leb (byte3 w) 127))
+-- a place behind others is one
+pub found-behind : (i : ℕ) → place_found (i + 1) ≡ Some (i + 1)
+found-behind i = rw (ne_eqb (i + 1) 0 (λ q. omega (arith, q)))

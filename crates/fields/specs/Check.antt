@@ -1,6 +1,6 @@
 -- What is checked of a packet's status and fields (RULES 2.2 and 2.3; 01 "What is checked"). A packet is given by its
 -- first two words; the second is 0 where it has one word.
-use Rattle.std.specs.Prelude.{ℕ, ◌+◌, ◌<◌, Bool, true, false, cond, not, ◌&&◌, ◌||◌, ◌≡◌, List, [], ◌∷◌, map, get_or, take, eqb, leb}
+use Rattle.std.specs.Prelude.{ℕ, ◌+◌, ◌<◌, Bool, true, false, cond, not, ◌&&◌, ◌||◌, ◌≡◌, List, [], ◌∷◌, map, get_or, take, eqb, leb, Option, Some, None}
 use Rattle.ump.specs.Packet.{first, second}
 use Rattle.ump.specs.Word.{bank_flag, byte1, byte2, byte3, byte4, count, message_type, status, voice1, voice2}
 
@@ -81,6 +81,10 @@ behind n = cond (eqb n 0) 0 (n + 1)
 unfoldable pub bad_place : List Field → ℕ
 bad_place [] = 0
 bad_place (f ∷ fs) = cond (good f) (behind (bad_place fs)) 1
+
+-- that place as the code has it
+abbrev pub place_found : ℕ → Option ℕ
+place_found k = cond (eqb k 0) None (Some k)
 
 -- none is above its most
 abbrev pub good_fields : List Field → Bool

@@ -4,10 +4,10 @@
 // Every function is total, and says what it finds by a definition of specs/.
 #![tactic(auto)]
 
-ghost use Rattle.std.specs.Prelude.{◌≡◌, cond, not, ◌&&◌, [], ◌∷◌, ◌+◌, ◌≤◌, ◌<◌, ◌^◌, eqb};
+ghost use Rattle.std.specs.Prelude.{◌≡◌, not, ◌&&◌, ◌≤◌, eqb, length, map, IfSome};
 ghost use Rattle.ump.specs.Word;
-ghost use Rattle.fields.specs.Check.{bad_place, behind, checked_fields, exclusive_fields, good_fields, good_status};
-ghost use Rattle.fields.specs.Check.{good_unchanged};
+ghost use Rattle.fields.specs.Check.{bad_place, checked_fields, exclusive_fields, good_fields, good_status};
+ghost use Rattle.fields.specs.Check.{good_unchanged, place_found};
 ghost use Rattle.fields.specs.Check.{seven, system_fields, system_status, voice1_fields, voice1_status};
 ghost use Rattle.fields.specs.Check.{voice2_fields};
 
@@ -15,6 +15,9 @@ use ump::{byte1, byte2, byte3, byte4, count, has_bank, message_type, status};
 
 // The most that a data byte, a note, an index or a program may be.
 const MOST: u8 = 127;
+
+// How many payload bytes a packet of an exclusive has room for.
+const PAYLOAD_BYTES: usize = 6;
 
 fn is_system_status(b: u8) -> bool
     ensures { result ≡ system_status b }
@@ -38,6 +41,7 @@ pub fn is_voice1_status(w: u32) -> bool
     (8 <= s) & (s <= 14)
 }
 
+#[tactic(auto, unfolding(crate::specs::Check::good_status))]
 pub fn is_good_status(w: u32) -> bool
     ensures { result ≡ good_status w }
 {
@@ -54,6 +58,7 @@ pub fn is_good_status(w: u32) -> bool
 
 // Whether a MIDI 1.0 voice message has no bad field, which is asked of most packets: two data bytes;
 // program change and channel pressure have one.
+#[tactic(auto, unfolding(crate::specs::Check::bad_place, crate::specs::Check::voice1_fields))]
 pub fn is_good_voice1(w: u32) -> bool
     ensures { result ≡ good_fields (voice1_fields w) }
 {
@@ -66,6 +71,7 @@ pub fn is_good_voice1(w: u32) -> bool
 }
 
 // Whether a system message has no bad field.
+#[tactic(auto, unfolding(crate::specs::Check::bad_place, crate::specs::Check::system_fields))]
 fn is_good_system(w: u32) -> bool
     ensures { result ≡ good_fields (system_fields w) }
 {
@@ -80,6 +86,7 @@ fn is_good_system(w: u32) -> bool
 }
 
 // Whether a packet of an exclusive has none: bytes behind the count are not asked.
+#[tactic(auto, unfolding(crate::specs::Check::bad_place, crate::specs::Check::exclusive_fields))]
 fn is_good_exclusive(w: u32, v: u32) -> bool
     ensures { result ≡ good_fields (exclusive_fields w v) }
 {
@@ -94,6 +101,7 @@ fn is_good_exclusive(w: u32, v: u32) -> bool
 }
 
 // Whether a packet is of a type that is passed on unchanged in both directions, and has no bad status or field.
+#[tactic(auto, unfolding(crate::specs::Check::good_unchanged, crate::specs::Check::good_status, crate::specs::Check::checked_fields, crate::specs::Check::bad_place))]
 pub fn is_good_unchanged(w: u32, v: u32) -> bool
     ensures { result ≡ good_unchanged w v }
 {
@@ -111,6 +119,7 @@ pub fn is_good_unchanged(w: u32, v: u32) -> bool
 
 // Whether a MIDI 2.0 voice message has a good status and no bad field. Notes, poly pressure and controllers, which most
 // of them are, have one number that is asked, and are asked for first.
+#[tactic(auto, unfolding(crate::specs::Check::bad_place, crate::specs::Check::voice2_fields))]
 pub fn is_good_voice2(w: u32, v: u32) -> bool
     ensures { result ≡ (not (eqb (Word.status w) 7) && good_fields (voice2_fields w v)) }
 {
@@ -133,110 +142,90 @@ pub fn is_good_voice2(w: u32, v: u32) -> bool
     !(s == 7) & (byte3(w) <= MOST)
 }
 
-// The place of the first bad one of a field and those behind it, whose own is `rest`.
-fn first_bad(good: bool, rest: u32) -> u32
-    requires { rest < 2 ^ 8 }
-    ensures place { result ≡ cond good (behind rest) 1 }
-    ensures small { result ≤ rest + 1 }
+// The place of the first of some data bytes that is above its most, counted from 1.
+fn first_above(bytes: &[u8]) -> Option<u32>
+    requires { length bytes.now ≤ 6 }
+    ensures place { result ≡ place_found (bad_place (map seven bytes.now)) }
+    ensures few { IfSome result (λ place. place ≤ 6) }
 {
-    if good {
-        if rest == 0 { 0 } else { rest + 1 }
-    } else {
-        1
+    for (i, byte) in bytes.iter().enumerate() {
+        if *byte > MOST {
+            return Some(i as u32 + 1);
+        }
     }
-}
-
-fn one_field(a: u8) -> u32
-    ensures { result ≡ bad_place (seven a ∷ []) }
-{
-    first_bad(a <= MOST, 0)
-}
-
-fn two_fields(a: u8, b: u8) -> u32
-    ensures { result ≡ bad_place (seven a ∷ seven b ∷ []) }
-{
-    first_bad(a <= MOST, first_bad(b <= MOST, 0))
-}
-
-fn three_fields(a: u8, b: u8, c: u8) -> u32
-    ensures { result ≡ bad_place (seven a ∷ seven b ∷ seven c ∷ []) }
-{
-    let third = first_bad(c <= MOST, 0);
-    let second = first_bad(b <= MOST, third);
-    first_bad(a <= MOST, second)
+    None
 }
 
 // System messages: the data bytes that the status byte has.
-fn bad_place_system(w: u32) -> u32
-    ensures { result ≡ bad_place (system_fields w) }
+#[tactic(auto, unfolding(crate::specs::Check::bad_place, crate::specs::Check::system_fields))]
+fn bad_place_system(w: u32) -> Option<u32>
+    ensures { result ≡ place_found (bad_place (system_fields w)) }
 {
-    let b = byte2(w);
-    if (b == 0xF1) | (b == 0xF3) {
-        return one_field(byte3(w));
+    match byte2(w) {
+        0xF1 | 0xF3 => first_above(&[byte3(w)]),
+        0xF2 => first_above(&[byte3(w), byte4(w)]),
+        _ => None,
     }
-    if b == 0xF2 {
-        return two_fields(byte3(w), byte4(w));
-    }
-    0
 }
 
 // A MIDI 1.0 voice message.
-pub fn bad_place_voice1(w: u32) -> u32
-    ensures { result ≡ bad_place (voice1_fields w) }
+#[tactic(auto, unfolding(crate::specs::Check::bad_place, crate::specs::Check::voice1_fields))]
+pub fn bad_place_voice1(w: u32) -> Option<u32>
+    ensures { result ≡ place_found (bad_place (voice1_fields w)) }
 {
-    let s = status(w);
-    if (s == 12) | (s == 13) {
-        one_field(byte3(w))
-    } else {
-        two_fields(byte3(w), byte4(w))
+    match status(w) {
+        12 | 13 => first_above(&[byte3(w)]),
+        _ => first_above(&[byte3(w), byte4(w)]),
     }
 }
 
 // Exclusives: the count, and as many payload bytes; those behind the count are not asked.
-fn bad_place_exclusive(w: u32, v: u32) -> u32
-    ensures { result ≡ bad_place (exclusive_fields w v) }
+#[tactic(auto, unfolding(crate::specs::Check::bad_place, crate::specs::Check::exclusive_fields))]
+fn bad_place_exclusive(w: u32, v: u32) -> Option<u32>
+    ensures { result ≡ place_found (bad_place (exclusive_fields w v)) }
 {
-    let n = count(w);
-    let sixth = first_bad((n < 6) | (byte4(v) <= MOST), 0);
-    let fifth = first_bad((n < 5) | (byte3(v) <= MOST), sixth);
-    let fourth = first_bad((n < 4) | (byte2(v) <= MOST), fifth);
-    let third = first_bad((n < 3) | (byte1(v) <= MOST), fourth);
-    let second = first_bad((n < 2) | (byte4(w) <= MOST), third);
-    let first = first_bad((n < 1) | (byte3(w) <= MOST), second);
-    first_bad(n <= 6, first)
+    let n = count(w) as usize;
+    if n <= PAYLOAD_BYTES {
+        let payload = [byte3(w), byte4(w), byte1(v), byte2(v), byte3(v), byte4(v)];
+        match first_above(&payload[..n]) {
+            Some(place) => Some(place + 1),
+            None => None,
+        }
+    } else {
+        Some(1)
+    }
 }
 
 // MIDI 2.0 voice: a note, an index, a bank and an index, or a program and the bank that its flag
 // announces.
-fn bad_place_voice2(w: u32, v: u32) -> u32
-    ensures { result ≡ bad_place (voice2_fields w v) }
+#[tactic(auto, unfolding(crate::specs::Check::bad_place, crate::specs::Check::voice2_fields))]
+fn bad_place_voice2(w: u32, v: u32) -> Option<u32>
+    ensures { result ≡ place_found (bad_place (voice2_fields w v)) }
 {
-    let s = status(w);
-    if (2 <= s) & (s <= 5) {
-        return two_fields(byte3(w), byte4(w));
-    }
-    if s == 12 {
-        if has_bank(w) {
-            return three_fields(byte1(v), byte3(v), byte4(v));
+    match status(w) {
+        2..=5 => first_above(&[byte3(w), byte4(w)]),
+        12 => {
+            if has_bank(w) {
+                first_above(&[byte1(v), byte3(v), byte4(v)])
+            } else {
+                first_above(&[byte1(v)])
+            }
         }
-        return one_field(byte1(v));
+        13 | 14 => None,
+        _ => first_above(&[byte3(w)]),
     }
-    if (s == 13) | (s == 14) {
-        return 0;
-    }
-    one_field(byte3(w))
 }
 
-// The place of a packet's first bad field, or 0.
-pub fn bad_place(w: u32, v: u32) -> u32
-    ensures { result ≡ bad_place (checked_fields w v) }
+// The place of a packet's first bad field, if there is one.
+#[tactic(auto, unfolding(crate::specs::Check::bad_place, crate::specs::Check::checked_fields))]
+pub fn bad_place(w: u32, v: u32) -> Option<u32>
+    ensures { result ≡ place_found (bad_place (checked_fields w v)) }
 {
-    let t = message_type(w);
-    match t {
+    match message_type(w) {
         1 => bad_place_system(w),
         2 => bad_place_voice1(w),
         3 => bad_place_exclusive(w, v),
         4 => bad_place_voice2(w, v),
-        _ => 0,
+        _ => None,
     }
 }

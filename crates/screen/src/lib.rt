@@ -6,11 +6,12 @@
 #![tactic(auto)]
 
 ghost use Rattle.std.specs.Prelude.{◌≡◌, ◌<◌};
+ghost use Rattle.stream.specs.Answers.{bad_data};
 ghost use Rattle.fields.specs.Check.{checked_fields, good_status};
 ghost use Rattle.screen.specs.Screen.{admitted, answering, beginners_controller};
 ghost use Rattle.screen.specs.Screen.{check_voice1, checking, for_beginners, group_bit, grouped};
-ghost use Rattle.screen.specs.Screen.{open_rule, outside, placed, reserved, screen_by};
-ghost use Rattle.screen.specs.Screen.{goes_on, judged, ruled, screen_voice1, wrong_of};
+ghost use Rattle.screen.specs.Screen.{open_rule, outside, reserved, screen_by};
+ghost use Rattle.screen.specs.Screen.{judged, ruled, screen_voice1, wrong_of};
 ghost use Rattle.screen.specs.Downward.{lets_down};
 ghost use Rattle.screen.specs.Screen;
 
@@ -100,6 +101,16 @@ impl Refusal {
     {
         Refusal { answer, place: 0 }
     }
+
+    // By the place of the first bad field.
+    fn bad_field(place: u32) -> Refusal
+        ensures { result ≡ record { answer = bad_data; place = place } }
+    {
+        Refusal {
+            answer: BAD_DATA,
+            place,
+        }
+    }
 }
 
 // Whether a rule lets a good packet pass.
@@ -113,19 +124,6 @@ fn admit(rule: Rule, w: u32) -> Result<(), Refusal>
     Ok(())
 }
 
-// By the place of the first bad field, which is 0 where there is none.
-fn no_bad_field(place: u32) -> Result<(), Refusal>
-    ensures { result ≡ judged (placed place goes_on) }
-{
-    if place == 0 {
-        return Ok(());
-    }
-    Err(Refusal {
-        answer: BAD_DATA,
-        place,
-    })
-}
-
 // A packet by its first two words, the second 0 where it has one word.
 fn check(rule: Rule, w: u32, v: u32) -> Result<(), Refusal>
     ensures { result ≡ judged (checking (good_status w) (checked_fields w v) (admitted rule w)) }
@@ -133,7 +131,9 @@ fn check(rule: Rule, w: u32, v: u32) -> Result<(), Refusal>
     if !fields::is_good_status(w) {
         return Err(Refusal::by(BAD_STATUS));
     }
-    no_bad_field(fields::bad_place(w, v))?;
+    if let Some(place) = fields::bad_place(w, v) {
+        return Err(Refusal::bad_field(place));
+    }
     admit(rule, w)
 }
 
@@ -149,7 +149,10 @@ fn check_voice1(w: u32) -> Result<(), Refusal>
     if fields::is_good_voice1(w) {
         return Ok(());
     }
-    no_bad_field(fields::bad_place_voice1(w))
+    match fields::bad_place_voice1(w) {
+        None => Ok(()),
+        Some(place) => Err(Refusal::bad_field(place)),
+    }
 }
 
 // A packet, or the empty part where none is whole, where voice messages of the type `wrong`, if one is given, are
