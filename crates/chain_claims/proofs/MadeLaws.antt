@@ -14,7 +14,7 @@ use Rattle.stream.specs.Answers.{out_of_turn}
 use Rattle.screen.specs.Screen.{goes_on}
 use Rattle.piece.specs.Piece.{Fine, Piece, payload}
 use Rattle.chains.specs.declared.Chain.{Chain}
-use Rattle.chains.specs.Step.{base_of, fresh, grown, refused_by, step_of, strays, verdict}
+use Rattle.chains.specs.Step.{base_of, begins, fresh, grown, refused_by, step_of, strays, verdict}
 use Rattle.chains.specs.Collect.{piece_of, refusal_of}
 use Rattle.chains.proofs.SortLaws.{same_or_not}
 use Rattle.chains.proofs.StepLaws.{step-answer, taken}
@@ -57,11 +57,11 @@ module _ (c : Chain) (x : Piece) where
   unfolding base_of
   base-open e = rw e
 
-  pub out-closed : eqb c.packets 0 ≡ true → leb x.format 1 ≡ false → strays c x ≡ true
+  pub out-closed : eqb c.packets 0 ≡ true → begins x ≡ false → strays c x ≡ true
   unfolding strays
   out-closed e f = rw (e, f)
 
-  pub out-open : eqb c.packets 0 ≡ false → leb x.format 1 ≡ true → strays c x ≡ true
+  pub out-open : eqb c.packets 0 ≡ false → begins x ≡ true → strays c x ≡ true
   unfolding strays
   out-open e f = rw (e, f)
 
@@ -88,9 +88,9 @@ holds h qs p s e v =
     rw (
       (one-is h p (verdict h.chain (length h.part) x) e refl v).0,
       e,
-    ) (go (eqb h.chain.packets 0) refl (leb x.format 1) refl s t.0 t.2)
+    ) (go (eqb h.chain.packets 0) refl (begins x) refl s t.0 t.2)
   where
-    go : (c : Bool) → eqb h.chain.packets 0 ≡ c → (b : Bool) → leb (piece_of p).format 1 ≡ b → Sound h qs
+    go : (c : Bool) → eqb h.chain.packets 0 ≡ c → (b : Bool) → begins (piece_of p) ≡ b → Sound h qs
         → strays h.chain (piece_of p) ≡ false → base_of h.chain + (piece_of p).count ≤ length h.part
         → ((grown h.chain (piece_of p)).length ≡ length (payloads (cond b (p ∷ []) (qs ++ p ∷ []))))
         × (take (grown h.chain (piece_of p)).length (paste h.part (base_of h.chain) (piece_of p).bytes

@@ -14,7 +14,7 @@ use Rattle.ump.specs.Packet.{first, packet}
 use Rattle.ump.specs.Word.{group_of, message_type}
 use Rattle.screen.specs.Screen.{goes_on}
 use Rattle.piece.specs.Piece.{Fine, Piece, chain_for, exclusive, exclusive_piece, flex, flex_piece, no_chain, payload}
-use Rattle.piece.specs.Piece.{piece_for}
+use Rattle.piece.specs.Piece.{complete, continued, end, piece_for, start}
 use Rattle.chains.specs.Step.{base_of, grown, part_of, step_of, strays, verdict, verdict_by}
 use Rattle.chains.specs.Collect.{chain_at, chain_of, part_at, piece_of, refusal_of, share}
 use Rattle.chain_claims.specs.Claims.{All32, Finished, Held, Message, Middles, Piecewise, World, answers}
@@ -67,7 +67,7 @@ one-is h p v e f l = rw (e, f, le-leb v 1 l) (refl, refl)
 
 module _ (k sh : ℕ) (P : List ℕ) where
   -- a start, where none is open
-  begin : (h : Held) (a : List ℕ) → h.chain.packets ≡ 0 → h.part ≡ P → Piecewise k sh 1 a
+  begin : (h : Held) (a : List ℕ) → h.chain.packets ≡ 0 → h.part ≡ P → Piecewise k sh start a
       → length (payload (piece_of a)) ≤ length P
       → (one h a ≡ opened (payload (piece_of a)) sh 1 P) × (told h a ≡ 1)
   unfolding verdict_by strays base_of grown
@@ -85,7 +85,7 @@ module _ (k sh : ℕ) (P : List ℕ) where
       (o.0 ∙ rw (z, s.place, s.same, q, n, zero-add x.count), o.1)
 
   -- a complete packet
-  at_once : (h : Held) (a : List ℕ) → h.chain.packets ≡ 0 → h.part ≡ P → Piecewise k sh 0 a
+  at_once : (h : Held) (a : List ℕ) → h.chain.packets ≡ 0 → h.part ≡ P → Piecewise k sh complete a
       → length (payload (piece_of a)) ≤ length P
       → (one h a ≡ holding (payload (piece_of a)) sh P) × (told h a ≡ 0)
   unfolding verdict_by strays base_of grown
@@ -105,7 +105,7 @@ module _ (k sh : ℕ) (P : List ℕ) where
   -- a packet that continues, and one that ends, where one is open
   module _ (bs : List ℕ) (m : ℕ) (p : List ℕ) (some : 1 ≤ m) (few : m < 32)
       (room : length bs + length (payload (piece_of p)) ≤ length P) where
-    again : Piecewise k sh 2 p → (one (opened bs sh m P) p
+    again : Piecewise k sh continued p → (one (opened bs sh m P) p
         ≡ opened (bs ++ payload (piece_of p)) sh (m + (piece_of p).adds) P) × (told (opened bs sh m P) p ≡ 1)
     unfolding verdict_by strays base_of grown
     again s =
@@ -143,7 +143,7 @@ module _ (k sh : ℕ) (P : List ℕ) where
           o.1,
         )
 
-    finish : Piecewise k sh 3 p → (one (opened bs sh m P) p ≡ holding (bs ++ payload (piece_of p)) sh P)
+    finish : Piecewise k sh end p → (one (opened bs sh m P) p ≡ holding (bs ++ payload (piece_of p)) sh P)
         × (told (opened bs sh m P) p ≡ 0)
     unfolding verdict_by strays base_of grown
     finish s =
@@ -219,7 +219,7 @@ added-few : (k sh : ℕ) (ms : List (List ℕ)) → Middles k sh ms → (k < 16)
 added-few k sh ms h f = ⊎_elim (λ l. omega (arith, added_none k sh ms h l)) (λ l. omega (arith, l, added-length ms)) f
 
 -- the packets after the first
-after_first : (k sh : ℕ) (P : List ℕ) (z : List ℕ) → Piecewise k sh 3 z → (ms : List (List ℕ)) (bs : List ℕ) (m : ℕ)
+after_first : (k sh : ℕ) (P : List ℕ) (z : List ℕ) → Piecewise k sh end z → (ms : List (List ℕ)) (bs : List ℕ) (m : ℕ)
     → Middles k sh ms → 1 ≤ m → m + added ms < 32
     → length bs + length (payloads (ms ++ z ∷ [])) ≤ length P
     → (gathered (opened bs sh m P) (ms ++ z ∷ []) ≡ holding (bs ++ payloads (ms ++ z ∷ [])) sh P)
@@ -278,7 +278,7 @@ proved-finished = record { rows = rows; at_once = at-once-alone }
 
     at-once-alone : (k : ℕ) (w : World) (ps : List (List ℕ)) (a : List ℕ) → k < 32 → All32 w
         → (chain_at k w.chains).packets ≡ 0
-        → only k ps ≡ a ∷ [] → Piecewise k (piece_of a).shared 0 a → length (payload (piece_of a)) ≤ share w.buffer
+        → only k ps ≡ a ∷ [] → Piecewise k (piece_of a).shared complete a → length (payload (piece_of a)) ≤ share w.buffer
         → (held_at k (run w ps) ≡ holding (payload (piece_of a)) (piece_of a).shared (part_at k w.buffer))
         × (answers k w ps ≡ 0 ∷ [])
     at-once-alone k w ps a low full c e g r =

@@ -4,6 +4,7 @@ use Rattle.std.specs.Prelude.{ℕ, ◌+◌, ◌*◌, ◌≤◌, ◌<◌, ◌≡�
 use Rattle.std.specs.Prelude.{replicate, eqb, ltb}
 use Rattle.stream.specs.Answers.{out_of_turn, sent, taken_in, too_many_packets}
 use Rattle.screen.specs.Screen.{goes_on}
+use Rattle.piece.specs.declared.Format.{Format}
 use Rattle.piece.specs.Piece.{complete, continued, end, payload, start}
 use Rattle.chains.specs.declared.Chain.{Chain}
 use Rattle.chains.specs.Step.{begins, fresh, most, part_of, step_of}
@@ -104,7 +105,7 @@ payloads (p ∷ ps) = payload (piece_of p) ++ payloads ps
 
 -- A packet of chain k that nothing refuses before its chain is asked, with the place in its message and the shared
 -- fields that are given.
-pub record Piecewise (k shared format : ℕ) (p : List ℕ) : Type 0 where
+pub record Piecewise (k shared : ℕ) (format : Format) (p : List ℕ) : Type 0 where
   pub chain : chain_of p ≡ k
   pub good : refusal_of p ≡ goes_on
   pub place : (piece_of p).format ≡ format

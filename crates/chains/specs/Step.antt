@@ -1,8 +1,10 @@
 -- One piece into one chain and its part of the buffer (RULES 14; 02 M-106). No other chain is named here.
-use Rattle.std.specs.Prelude.{ℕ, ◌+◌, Bool, cond, not, ◌||◌, List, length, eqb, leb, ltb}
+use Rattle.std.specs.Prelude.{ℕ, ◌+◌, Bool, true, false, cond, not, ◌||◌, List, length, eqb, leb, ltb}
 use Rattle.std.proofs.Math.Seq.{paste}
 use Rattle.stream.specs.Answers.{out_of_turn, sent, taken_in, too_long, too_many_packets}
-use Rattle.piece.specs.Piece.{Piece, complete, end, start}
+use Rattle.piece.specs.declared.Format.{Format}
+use Rattle.piece.specs.declared.Format.TheVariants.{Complete, End, Start}
+use Rattle.piece.specs.Piece.{Piece}
 use Rattle.chains.specs.declared.Chain.{Chain}
 
 -- A chain of which nothing is known: none is open, and none was. So it is after a drop.
@@ -13,12 +15,22 @@ fresh = record { length = 0; shared = 0; packets = 0 }
 abbrev pub closed : Chain → Bool
 closed c = eqb c.packets 0
 
--- a piece that begins a message, and one that finishes it; a complete one does both
+-- the places at which a message begins, and those at which it is finished; a complete piece does both
+abbrev pub begins_at : Format → Bool
+begins_at Complete = true
+begins_at Start = true
+begins_at _ = false
+
+abbrev pub finishes_at : Format → Bool
+finishes_at Complete = true
+finishes_at End = true
+finishes_at _ = false
+
 abbrev pub begins : Piece → Bool
-begins x = leb x.format start
+begins x = begins_at x.format
 
 abbrev pub finishes : Piece → Bool
-finishes x = eqb x.format complete || eqb x.format end
+finishes x = finishes_at x.format
 
 -- where a piece's bytes go: behind those of an open chain, else to the part's beginning
 unfoldable pub base_of : Chain → ℕ

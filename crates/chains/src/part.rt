@@ -4,13 +4,13 @@ ghost use Rattle.std.proofs.Math.Seq.{paste};
 ghost use Rattle.std.proofs.lemmas.List.Edits.{sets};
 ghost use Rattle.ump.specs.Word;
 ghost use Rattle.piece.specs.Piece.{exclusive_bytes, flex_bytes};
-ghost use Rattle.chains.specs.Step.{base_of, finishes, part_of, refused_by, strays, verdict, verdict_by};
+ghost use Rattle.chains.specs.Step.{base_of, begins, finishes, part_of, refused_by, strays, verdict, verdict_by};
 ghost use Rattle.chains.specs.Step;
 ghost use Rattle.chains.specs.Collect.{part_at, share, with_part};
 ghost use Rattle.chains.specs.Turn.{Standing, bare, chain_left, piece_at};
 
 use crate::Chain;
-use piece::{COMPLETE, END, EXCLUSIVE_BYTES, FLEX, Head, START, head_of};
+use piece::{EXCLUSIVE_BYTES, FLEX, Format, Head, head_of};
 use stream::{OUT_OF_TURN, SENT, TAKEN_IN, TOO_LONG, TOO_MANY_PACKETS};
 use ump::{byte1, byte2, byte3, byte4, message_type};
 
@@ -26,23 +26,27 @@ fn base_of(c: Chain) -> usize
     if packets == 0 { 0 } else { c.length }
 }
 
-// Whether a piece comes out of turn.
-#[tactic(auto, unfolding(crate::specs::Step::strays))]
-fn is_stray(c: Chain, x: Head) -> bool
-    ensures { result ≡ strays c (bare x) }
+fn is_first(x: Head) -> bool
+    ensures { result ≡ begins (bare x) }
 {
-    let packets = c.packets;
-    let begins = x.format <= START;
-    if packets == 0 {
-        return !begins;
-    }
-    begins | !(c.shared == x.shared)
+    matches!(x.format, Format::Complete | Format::Start)
 }
 
 fn is_last(x: Head) -> bool
     ensures { result ≡ finishes (bare x) }
 {
-    (x.format == COMPLETE) | (x.format == END)
+    matches!(x.format, Format::Complete | Format::End)
+}
+
+// Whether a piece comes out of turn.
+#[tactic(auto, unfolding(crate::specs::Step::strays))]
+fn is_stray(c: Chain, x: Head) -> bool
+    ensures { result ≡ strays c (bare x) }
+{
+    if c.packets == 0 {
+        return !is_first(x);
+    }
+    is_first(x) | (c.shared != x.shared)
 }
 
 // The answer to a piece. Whether it fits is asked by differences, so that no length can be too large.

@@ -3,6 +3,8 @@
 use Rattle.std.specs.Prelude.{ℕ, ◌+◌, ◌≤◌, ◌%◌, ◌^◌, min, ◌≡◌, Bool, cond, ◌&&◌, List, [], ◌∷◌, length, get_or, take, eqb, leb}
 use Rattle.ump.specs.Word.{bits, byte1, byte2, byte3, byte4, count, group_of, message_type, status}
 use Rattle.ump.specs.Packet.{first, second}
+use Rattle.piece.specs.declared.Format.{Format}
+use Rattle.piece.specs.declared.Format.TheVariants.{Complete, Continue, End, Reserved, Start}
 use Rattle.piece.specs.declared.Head.{Head}
 
 -- the message types of exclusives and of Flex Data
@@ -13,22 +15,27 @@ abbrev pub flex : ℕ
 flex = 13
 
 -- the places of a piece in its message: all of it, its first piece, one between, and its last
-abbrev pub complete : ℕ
-complete = 0
+abbrev pub complete : Format
+complete = Complete
 
-abbrev pub start : ℕ
-start = 1
+abbrev pub start : Format
+start = Start
 
-abbrev pub continued : ℕ
-continued = 2
+abbrev pub continued : Format
+continued = Continue
 
-abbrev pub end : ℕ
-end = 3
+abbrev pub end : Format
+end = End
+
+-- the place that a number stands for; those above 3 are reserved
+abbrev pub format_by : ℕ → Format
+format_by n =
+    cond (eqb n 0) complete (cond (eqb n 1) start (cond (eqb n 2) continued (cond (eqb n 3) end (Reserved n))))
 
 -- Flex Data: the place, the address, and all the fields that the packets of a message share, which are the address,
 -- the channel, the bank and the status
-abbrev pub format_of : ℕ → ℕ
-format_of w = bits 22 2 w
+abbrev pub format_of : ℕ → Format
+format_of w = format_by (bits 22 2 w)
 
 abbrev pub address_of : ℕ → ℕ
 address_of w = bits 20 2 w
@@ -59,7 +66,7 @@ slot_by w = cond (eqb (message_type w) flex) (16 + (group_of w).0) (group_of w).
 -- A piece: its place in the message, the fields that it shares with the others, what it adds to the number of packets,
 -- which only Flex Data counts, and its bytes, the first `count` of the twelve.
 pub record Piece : Type 0 where
-  pub format : ℕ
+  pub format : Format
   pub shared : ℕ
   pub adds : ℕ
   pub count : ℕ
@@ -85,7 +92,7 @@ flex_bytes a b c = word_bytes a (word_bytes b (word_bytes c []))
 -- says so is refused before.
 unfoldable pub exclusive_piece : ℕ → ℕ → Piece
 exclusive_piece w a =
-    record { format = status w; shared = 0; adds = 0; count = min (count w) 6; bytes = exclusive_bytes w a }
+    record { format = format_by (status w); shared = 0; adds = 0; count = min (count w) 6; bytes = exclusive_bytes w a }
 
 unfoldable pub flex_piece : ℕ → ℕ → ℕ → ℕ → Piece
 flex_piece w a b c =

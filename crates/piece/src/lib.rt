@@ -5,11 +5,11 @@
 // Every function is total, and says what it finds by a definition of specs/.
 #![tactic(auto)]
 
-ghost use Rattle.std.specs.Prelude.{◌≡◌, min};
-ghost use Rattle.piece.specs.Piece.{address_of, exclusive_piece, flex_piece, format_of, head_by, head_of, shared_of};
-ghost use Rattle.piece.specs.Piece.{slot_by, strange_address};
+ghost use Rattle.std.specs.Prelude.{◌≡◌};
+ghost use Rattle.piece.specs.Piece.{address_of, exclusive_piece, flex_piece, format_by, format_of, head_by, head_of};
+ghost use Rattle.piece.specs.Piece.{shared_of, slot_by, strange_address};
 
-use ump::{Group, message_type};
+use ump::message_type;
 
 // The message type of exclusives.
 pub const EXCLUSIVE: u32 = 3;
@@ -23,33 +23,50 @@ pub const EXCLUSIVE_BYTES: usize = 6;
 // So many bytes a piece of Flex Data has.
 pub const FLEX_BYTES: usize = 12;
 
-// A piece that is a whole message.
-pub const COMPLETE: u32 = 0;
+// The place of a piece in its message: all of it, its first piece, one between, or its last. A status of an
+// exclusive that stands for no place is reserved, and refused before its chain is asked.
+#[derive(Clone, Copy, PartialEq, Eq)]
+pub enum Format {
+    Complete,
+    Start,
+    Continue,
+    End,
+    Reserved(u32),
+}
 
-// A message's first piece.
-pub const START: u32 = 1;
+impl From<u32> for Format {
+    ghost from_gives = { λ number format. format ≡ format_by number };
 
-// A message's last piece.
-pub const END: u32 = 3;
+    fn from(number: u32) -> Format {
+        match number {
+            0 => Format::Complete,
+            1 => Format::Start,
+            2 => Format::Continue,
+            3 => Format::End,
+            _ => Format::Reserved(number),
+        }
+    }
+}
 
 // Stands for the chain of a packet that belongs to none.
+// Kept: the C report of a call has this number where a packet names no chain.
 pub const NO_CHAIN: usize = 32;
 
 // All of a piece but its bytes: its place in the message, the fields that it shares with the others, what
 // it adds to the number of packets, which only Flex Data counts, and how many bytes it has.
 #[derive(Clone, Copy)]
 pub struct Head {
-    pub format: u32,
+    pub format: Format,
     pub shared: u32,
     pub adds: u32,
     pub count: usize,
 }
 
 // Of Flex Data, the place in the message: bits 23 and 22.
-fn format(w: u32) -> u32
+fn format_of(w: u32) -> Format
     ensures { result ≡ format_of w }
 {
-    (w >> 22) % 4
+    Format::from((w >> 22) % 4)
 }
 
 // Of Flex Data: bits 21 and 20.
@@ -75,42 +92,38 @@ pub fn has_strange_address(w: u32) -> bool
 
 // Where the chain of a packet's group stands among the 32, by its first word: those of Flex Data behind
 // those of exclusives. A packet of another type has a place there too, and no chain.
+#[tactic(auto, unfolding(crate::specs::Piece::slot_by))]
 pub fn slot_of(w: u32) -> usize
     ensures { result ≡ slot_by w }
 {
-    let group = ump::group_of(w);
-    let g = group.0;
+    let group = usize::from(ump::group_of(w).0);
     if message_type(w) == FLEX {
-        16 + g as usize
+        16 + group
     } else {
-        g as usize
+        group
     }
-}
-
-fn least(a: usize, b: usize) -> usize
-    ensures { result ≡ min a b }
-{
-    if a < b { a } else { b }
 }
 
 // An exclusive has nothing to share, and its packets are not counted. A count above six is refused before it
 // is asked here.
+#[tactic(auto, unfolding(crate::specs::Piece::exclusive_piece))]
 fn exclusive_head(w: u32) -> Head
     ensures { result ≡ head_of (exclusive_piece w 0) }
 {
     Head {
-        format: ump::status(w),
+        format: Format::from(ump::status(w)),
         shared: 0,
         adds: 0,
-        count: least(ump::count(w) as usize, EXCLUSIVE_BYTES),
+        count: (ump::count(w) as usize).min(EXCLUSIVE_BYTES),
     }
 }
 
+#[tactic(auto, unfolding(crate::specs::Piece::flex_piece))]
 fn flex_head(w: u32) -> Head
     ensures { result ≡ head_of (flex_piece w 0 0 0) }
 {
     Head {
-        format: format(w),
+        format: format_of(w),
         shared: shared(w),
         adds: 1,
         count: FLEX_BYTES,
@@ -118,6 +131,7 @@ fn flex_head(w: u32) -> Head
 }
 
 // What a packet's first word says of its piece.
+#[tactic(auto, unfolding(crate::specs::Piece::piece_for))]
 pub fn head_of(w: u32) -> Head
     ensures { result ≡ head_by w }
 {
