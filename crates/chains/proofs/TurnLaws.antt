@@ -1,6 +1,6 @@
 -- A call with one chain and a turn of a run, by the ways that their functions go: the packet is cut, its chain is
 -- asked, or it is told without. Assumes nothing.
-use Prim.Native.Nat.{ℕ, ◌+◌, ◌≤◌}
+use Prim.Native.Nat.{ℕ, ◌+◌}
 use mathlib.Core.Path.{◌≡◌, refl, sym, ap, ◌∙◌}
 use mathlib.Core.Bool.{Bool, true, false, not}
 use mathlib.Core.List.{List}
@@ -18,24 +18,24 @@ use Rattle.fields.specs.Check.{bad_place_of, good_status}
 use Rattle.stream.specs.Answers.{bad_address, cut_packet, sent, taken_in}
 use Rattle.screen.specs.declared.Screened.{Screened}
 use Rattle.screen.specs.Screen.{admitted, answering, goes_on, neither_type, outside, reserved, screen, screen_by}
-use Rattle.piece.specs.declared.Head.{Head}
-use Rattle.piece.specs.Piece.{address_of, chain_by, chain_for, flex, head_by, head_of, no_chain, slot_by}
+use Rattle.piece.specs.Piece.{address_of, chain_by, chain_for, flex, no_chain, slot_by}
 use Rattle.piece.specs.Piece.{Piece, strange_address}
-use Rattle.piece.proofs.PieceLaws.{head-any, piece-fine, slot-chain}
+use Rattle.piece.proofs.PieceLaws.{slot-chain}
 use Rattle.chains.specs.declared.Called.{Called}
 use Rattle.chains.specs.declared.Chain.{Chain}
 use Rattle.chains.specs.declared.Collected.{Collected}
 use Rattle.chains.specs.declared.Progress.{Progress}
 use Rattle.chains.specs.declared.Turned.{Turned}
-use Rattle.chains.specs.Step.{Stepped, base_of, finishes, part_of, step_of, strays, verdict, verdict_by}
+use Rattle.chains.specs.declared.part.Stepped.{Stepped}
+use Rattle.chains.specs.Step.{base_of, finishes, part_of, step_of, strays, verdict_by}
 use Rattle.chains.specs.Collect.{beside, buffer_with, chain_with, collected, kept_open, of_chain, part_at}
 use Rattle.chains.specs.Collect.{piece_of}
 use Rattle.chains.specs.Collect.{refusal_of, report_with, share, sort_by, sorted, with_part}
 use Rattle.chains.specs.Run.{drops, further}
-use Rattle.chains.specs.Turn.{bare, besides, called_with, chain_left, going_on, named_by, onward, piece_at}
+use Rattle.chains.specs.Turn.{besides, called_with, going_on, named_by, onward, piece_at}
 use Rattle.chains.specs.Turn.{progress_after, turned_at}
 use Rattle.chains.proofs.SortLaws.{chain-low, screen-no-address}
-use Rattle.chains.proofs.StepLaws.{bare-left, step-answer, step_is, taken}
+use Rattle.chains.proofs.StepLaws.{step-answer}
 use Rattle.chains.proofs.CollectLaws.{buffer-piece, chain-piece, chain_same, report-beside, report-kept}
 use Rattle.chains.proofs.CollectLaws.{report-piece}
 use Rattle.chains.proofs.WithinLaws.{answer-other, reads}
@@ -131,42 +131,20 @@ module _ (c : Chain) (n : ℕ) (s : List ℕ) where
       (λ f. eqb-false (screen neither_type p).answer goes_on bad (sym (ap (λ (x : Screened). x.answer) e) ∙ f))
       (λ f. screen-no-address p (sym (ap (λ (x : Screened). x.answer) e) ∙ f)))
 
--- a packet whose chain is asked, by what its functions find
+-- a packet whose chain is asked, by the step that its function takes
 module _ (c : Chain) (b ws : List ℕ) (at : ℕ) (asked : refusal_of (drop at ws) ≡ goes_on)
-    (a : ℕ) (answers : a ≡ verdict c (share b) (piece_at ws at)) (h : Head) (heads : h ≡ head_by (get_or ws at 0)) where
-  same_head : h ≡ head_of (piece_at ws at)
-  same_head = heads ∙ sym (head-any (get_or ws at 0) _ _ _)
+    (s : Stepped) (steps : s ≡ step_of c (share b) (piece_at ws at)) where
+  stepped : s ≡ step_of c (share b) (piece_of (drop at ws))
+  stepped = steps ∙ ap (λ (x : Piece). step_of c (share b) x) (sym (piece-at ws at asked))
 
-  -- what is taken fits
-  pub fits-left : length b ≤ 18446744073709551615
-      → a ≤ 1 → (c.packets + h.adds ≤ 4294967295) × (base_of c + h.count ≤ 18446744073709551615)
-  fits-left long l =
-      let t = taken _ _ _ _ _ _ (rw answers at l) in
-      let f = piece-fine (message_type (get_or ws at 0)) (get_or ws at 0) (get_or ws (at + 1) 0) (get_or ws (at + 2) 0)
-      (get_or ws (at + 3) 0) in
-      rw same_head (omega (arith, t.1, f.one), omega (arith, t.2))
+  pub chain-asked : s.chain ≡ chain_with c (share b) (drop at ws)
+  chain-asked = ap (λ (x : Stepped). x.chain) stepped ∙ sym (chain-piece c (share b) (drop at ws) asked)
 
-  module _ (g : Chain) (leaves : g ≡ chain_left a c (bare h)) where
-    made : ℕ → Chain → Stepped
-    made v x = record { answer = v; chain = x }
-
-    stepped : step_of c (share b) (piece_of (drop at ws)) ≡ record { answer = a; chain = g }
-    unfolding made
-    stepped =
-        ap (λ (x : Piece). step_of c (share b) x) (piece-at ws at asked)
-        ∙ step_is c (share b) (piece_at ws at)
-        ∙ ap (λ (v : ℕ). made v (chain_left v c (piece_at ws at))) (sym answers)
-        ∙ ap (made a) (sym (leaves ∙ ap (λ (x : Head). chain_left a c (bare x)) same_head
-        ∙ bare-left a c (piece_at ws at)))
-
-    pub chain-asked : g ≡ chain_with c (share b) (drop at ws)
-    chain-asked = sym (chain-piece c (share b) (drop at ws) asked ∙ ap (λ (s : Stepped). s.chain) stepped)
-
-    pub report-asked : (n k : ℕ) → n ≡ length (packet (drop at ws)) → k ≡ slot_by (get_or ws at 0)
-        → named_by a n k (share b) g ≡ report_with c (share b) (drop at ws)
-    unfolding collected
-    report-asked n k e f =
-        rw (report-piece c (share b) (drop at ws) asked, stepped, e, f, slot_at ws at asked)
+  pub report-asked : (n k : ℕ) → n ≡ length (packet (drop at ws)) → k ≡ slot_by (get_or ws at 0)
+      → named_by s.answer n k (share b) s.chain ≡ report_with c (share b) (drop at ws)
+  unfolding collected
+  report-asked n k e f =
+      rw (report-piece c (share b) (drop at ws) asked, ← stepped, e, f, slot_at ws at asked)
 
 -- the buffer after it
 pub buffer-asked : (c : Chain) (b ws : List ℕ) (at k : ℕ) → refusal_of (drop at ws) ≡ goes_on

@@ -6,6 +6,7 @@ use Rattle.piece.specs.declared.Format.{Format}
 use Rattle.piece.specs.declared.Format.TheVariants.{Complete, End, Start}
 use Rattle.piece.specs.Piece.{Piece}
 use Rattle.chains.specs.declared.Chain.{Chain}
+use Rattle.chains.specs.declared.part.Stepped.{Stepped}
 
 -- A chain of which nothing is known: none is open, and none was. So it is after a drop.
 abbrev pub fresh : Chain
@@ -73,11 +74,7 @@ refused_by a c = cond (eqb a out_of_turn) (cond (closed c) c fresh) fresh
 abbrev pub taken : ℕ → Bool
 taken a = leb a taken_in
 
--- What the step on one chain answers, and the chain after it.
-pub record Stepped : Type 0 where
-  pub answer : ℕ
-  pub chain : Chain
-
+-- what the step on one chain answers, and the chain after it
 unfoldable pub step_of : Chain → ℕ → Piece → Stepped
 step_of c n x =
     cond (taken (verdict c n x)) (record { answer = verdict c n x; chain = grown c x })

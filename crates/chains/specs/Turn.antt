@@ -1,9 +1,9 @@
 -- What the functions promise that see one chain by value, beside the definitions of a call and a run: a piece by its
 -- head and by the words from a place on, a call with one chain, and a turn of a run.
 use Rattle.std.specs.Prelude.{ℕ, ◌+◌, ◌*◌, ◌≤◌, ◌≡◌, Bool, false, cond, not, ◌&&◌, ◌||◌, List, [], drop, get_or, length}
-use Rattle.std.specs.Prelude.{eqb, ltb}
+use Rattle.std.specs.Prelude.{eqb, ltb, Err, Ok, Result}
 use Rattle.ump.specs.Word.{message_type}
-use Rattle.stream.specs.Answers.{cut_packet, sent, taken_in}
+use Rattle.stream.specs.Answers.{cut_packet, out_of_turn, sent, taken_in, too_long, too_many_packets}
 use Rattle.screen.specs.Screen.{answering, goes_on}
 use Rattle.piece.specs.declared.Head.{Head}
 use Rattle.piece.specs.Piece.{Piece, flex, piece_for}
@@ -12,7 +12,9 @@ use Rattle.chains.specs.declared.Collected.{Collected}
 use Rattle.chains.specs.declared.Called.{Called}
 use Rattle.chains.specs.declared.Progress.{Progress}
 use Rattle.chains.specs.declared.Turned.{Turned}
-use Rattle.chains.specs.Step.{closed, grown, refused_by, taken}
+use Rattle.chains.specs.declared.part.Refusal.{Refusal}
+use Rattle.chains.specs.declared.part.Refusal.TheVariants.{OutOfTurn, TooLong, TooManyPackets}
+use Rattle.chains.specs.Step.{closed}
 use Rattle.chains.specs.Collect.{beside, chain_with, collected_of, refusal_of, report_with, share, unlisted}
 use Rattle.chains.specs.Collect.{whole_list}
 use Rattle.chains.specs.Run.{drops, further, stops}
@@ -31,9 +33,15 @@ pub record Standing (ws : List ℕ) (at : ℕ) : Type 0 where
   pub two : at + 2 ≤ length ws
   pub four : message_type (get_or ws at 0) ≡ flex → at + 4 ≤ length ws
 
--- the chain after a step that answers a
-unfoldable pub chain_left : ℕ → Chain → Piece → Chain
-chain_left a c x = cond (taken a) (grown c x) (refused_by a c)
+-- the answers to refusals, and to a piece that is refused or taken, by whether it is its message's last
+abbrev pub number_of : Refusal → ℕ
+number_of OutOfTurn = out_of_turn
+number_of TooManyPackets = too_many_packets
+number_of TooLong = too_long
+
+abbrev pub answered : Result (Unit {0}) Refusal → Bool → ℕ
+answered (Ok _) last = cond last sent taken_in
+answered (Err refusal) last = number_of refusal
 
 -- reports by their numbers: one that names no chain, and one of chain k, which is c after it, in parts of n bytes
 abbrev pub besides : ℕ → ℕ → ℕ → Collected

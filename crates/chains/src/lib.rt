@@ -21,8 +21,8 @@ ghost use Rattle.chains.specs.Run.{drops};
 ghost use Rattle.chains.specs.Turn.{besides, called_with, named_by};
 
 use check::{is_asked, is_good, whole_size};
-use part::{after, take};
-use piece::{NO_CHAIN, has_strange_address, head_of, slot_of};
+use part::take;
+use piece::{NO_CHAIN, has_strange_address, slot_of};
 use screen::{NEITHER_TYPE, screen};
 use stream::{BAD_ADDRESS, CUT, NO_TABLE, OUT_OF_TURN, TAKEN_IN, TOO_LONG, TOO_MANY_PACKETS};
 use ump::{packet_at, word_at};
@@ -167,17 +167,15 @@ pub fn call(c: Chain, words: &[u32], buffer: &mut [u8]) -> Called
         };
     }
     if is_asked(words, 0) {
-        let w = words[0];
-        let k = slot_of(w);
-        let answer = take(c, buffer, k, words, 0);
-        let new = after(answer, c, head_of(w));
+        let k = slot_of(words[0]);
+        let step = take(c, buffer, k, words, 0);
         return Called {
-            report: named(answer, n, k, buffer.len() / 32, new),
-            chain: new,
+            report: named(step.answer, n, k, buffer.len() / CHAINS, step.chain),
+            chain: step.chain,
         };
     }
     Called {
-        report: aside(c, buffer.len() / 32, words, n),
+        report: aside(c, buffer.len() / CHAINS, words, n),
         chain: c,
     }
 }

@@ -1,15 +1,16 @@
 // One piece into one chain and its part of the buffer.
-ghost use Rattle.std.specs.Prelude.{◌≡◌, [], ◌∷◌, ◌+◌, ◌≤◌, ◌<◌, get_or, length};
+ghost use Rattle.std.specs.Prelude.{◌≡◌, [], ◌∷◌, ◌+◌, ◌≤◌, ◌<◌, cond, get_or, length};
 ghost use Rattle.std.proofs.Math.Seq.{paste};
 ghost use Rattle.std.proofs.lemmas.List.Edits.{sets};
 ghost use Rattle.ump.specs.Word;
+ghost use Rattle.stream.specs.Answers.{sent, taken_in};
 ghost use Rattle.piece.specs.Piece.{exclusive_bytes, flex_bytes};
-ghost use Rattle.chains.specs.Step.{base_of, begins, finishes, part_of, refused_by, strays, verdict, verdict_by};
+ghost use Rattle.chains.specs.Step.{base_of, begins, finishes, part_of, refused_by, step_of, strays, verdict};
 ghost use Rattle.chains.specs.Step;
 ghost use Rattle.chains.specs.Collect.{part_at, share, with_part};
-ghost use Rattle.chains.specs.Turn.{Standing, bare, chain_left, piece_at};
+ghost use Rattle.chains.specs.Turn.{Standing, answered, bare, number_of, piece_at};
 
-use crate::Chain;
+use crate::{CHAINS, Chain};
 use piece::{EXCLUSIVE_BYTES, FLEX, Format, Head, head_of};
 use stream::{OUT_OF_TURN, SENT, TAKEN_IN, TOO_LONG, TOO_MANY_PACKETS};
 use ump::{byte1, byte2, byte3, byte4, message_type};
@@ -17,13 +18,27 @@ use ump::{byte1, byte2, byte3, byte4, message_type};
 // The most packets that a chain may have.
 const MOST_PACKETS: u32 = 32;
 
+// Why a piece is refused.
+#[derive(Clone, Copy, PartialEq, Eq)]
+pub(crate) enum Refusal {
+    OutOfTurn,
+    TooManyPackets,
+    TooLong,
+}
+
+// A step on one chain: what it answers, and the chain after it.
+#[derive(Clone, Copy)]
+pub(crate) struct Stepped {
+    pub answer: u32,
+    pub chain: Chain,
+}
+
 // Where the next bytes go.
 #[tactic(auto, unfolding(crate::specs::Step::base_of))]
 fn base_of(c: Chain) -> usize
     ensures { result ≡ base_of c }
 {
-    let packets = c.packets;
-    if packets == 0 { 0 } else { c.length }
+    if c.packets == 0 { 0 } else { c.length }
 }
 
 fn is_first(x: Head) -> bool
@@ -49,24 +64,38 @@ fn is_stray(c: Chain, x: Head) -> bool
     is_first(x) | (c.shared != x.shared)
 }
 
-// The answer to a piece. Whether it fits is asked by differences, so that no length can be too large.
+// Whether a piece is taken. Whether it fits is asked by differences, so that no length can be too large.
 #[tactic(auto, unfolding(crate::specs::Step::verdict_by))]
-fn verdict(stray: bool, packets: u32, base: usize, room: usize, count: usize, last: bool) -> u32
-    ensures { result ≡ verdict_by stray packets base room count last }
+fn check(c: Chain, x: Head, room: usize) -> Result<(), Refusal>
+    ensures { answered result (finishes (bare x)) ≡ verdict c room (bare x) }
 {
-    if stray {
-        return OUT_OF_TURN;
+    if is_stray(c, x) {
+        return Err(Refusal::OutOfTurn);
     }
-    if MOST_PACKETS <= packets {
-        return TOO_MANY_PACKETS;
+    if MOST_PACKETS <= c.packets {
+        return Err(Refusal::TooManyPackets);
     }
-    if room < base {
-        return TOO_LONG;
+    let base = base_of(c);
+    if (room < base) || (room - base < x.count) {
+        return Err(Refusal::TooLong);
     }
-    if room - base < count {
-        return TOO_LONG;
+    Ok(())
+}
+
+// How many packets the chain has with the piece in it.
+#[tactic(auto, unfolding(crate::specs::Step::grown))]
+fn packets_with(c: Chain, x: Head) -> u32
+    requires { c.packets + x.adds ≤ 4294967295 }
+    ensures { result ≡ (Step.grown c (bare x)).packets }
+{
+    if is_last(x) {
+        return 0;
     }
-    if last { SENT } else { TAKEN_IN }
+    if c.packets == 0 {
+        1
+    } else {
+        c.packets + x.adds
+    }
 }
 
 // The chain with the piece in it.
@@ -75,56 +104,39 @@ fn grown(c: Chain, x: Head) -> Chain
     requires { (c.packets + x.adds ≤ 4294967295) × (base_of c + x.count ≤ 18446744073709551615) }
     ensures { result ≡ Step.grown c (bare x) }
 {
-    let length = base_of(c) + x.count;
-    let shared = x.shared;
-    if is_last(x) {
-        return Chain {
-            length,
-            shared,
-            packets: 0,
-        };
-    }
-    let packets = c.packets;
-    if packets == 0 {
-        return Chain {
-            length,
-            shared,
-            packets: 1,
-        };
-    }
     Chain {
-        length,
-        shared,
-        packets: packets + x.adds,
+        length: base_of(c) + x.count,
+        shared: x.shared,
+        packets: packets_with(c, x),
+    }
+}
+
+// What a piece that is taken answers.
+fn answer_taken(x: Head) -> u32
+    ensures { result ≡ cond (finishes (bare x)) sent taken_in }
+{
+    if is_last(x) { SENT } else { TAKEN_IN }
+}
+
+fn answer_refused(refusal: Refusal) -> u32
+    ensures { result ≡ number_of refusal }
+{
+    match refusal {
+        Refusal::OutOfTurn => OUT_OF_TURN,
+        Refusal::TooManyPackets => TOO_MANY_PACKETS,
+        Refusal::TooLong => TOO_LONG,
     }
 }
 
 // The chain after a refusal: with none open nothing is dropped.
 #[tactic(auto, unfolding(crate::specs::Step::refused_by))]
-fn refused(answer: u32, c: Chain) -> Chain
-    ensures { result ≡ refused_by answer c }
+fn refused(refusal: Refusal, c: Chain) -> Chain
+    ensures { result ≡ refused_by (number_of refusal) c }
 {
-    let packets = c.packets;
-    if answer == OUT_OF_TURN {
-        if packets == 0 {
-            return c;
-        }
-        return crate::closed_chain();
+    match refusal {
+        Refusal::OutOfTurn if c.packets == 0 => c,
+        _ => crate::closed_chain(),
     }
-    crate::closed_chain()
-}
-
-// The chain after a piece, by its answer.
-#[tactic(auto, unfolding(crate::specs::Turn::chain_left))]
-pub(crate) fn after(answer: u32, c: Chain, x: Head) -> Chain
-    requires { answer ≤ 1 → (c.packets + x.adds ≤ 4294967295)
-        × (base_of c + x.count ≤ 18446744073709551615) }
-    ensures { result ≡ chain_left answer c (bare x) }
-{
-    if answer <= TAKEN_IN {
-        return grown(c, x);
-    }
-    refused(answer, c)
 }
 
 // Stores the four bytes of a word from a place on.
@@ -133,10 +145,7 @@ fn put_word(part: &mut [u8], at: usize, w: u32)
     ensures { part.new ≡ sets part.old at
         (Word.byte1 w ∷ Word.byte2 w ∷ Word.byte3 w ∷ Word.byte4 w ∷ []) }
 {
-    part[at] = byte1(w);
-    part[at + 1] = byte2(w);
-    part[at + 2] = byte3(w);
-    part[at + 3] = byte4(w);
+    part[at..at + 4].copy_from_slice(&w.to_be_bytes());
 }
 
 // Stores the twelve bytes of Flex Data, whose packet stands at a place of the words.
@@ -205,38 +214,37 @@ fn put(part: &mut [u8], base: usize, words: &[u32], at: usize, n: usize)
     put_some(part, base, words[at], words[at + 1], n);
 }
 
-// The answer to the piece at a place of the words. One that is taken is stored in the chain's part.
-fn step(c: Chain, part: &mut [u8], words: &[u32], at: usize) -> u32
+// The step with the piece at a place of the words. One that is taken is stored in the chain's part.
+fn step(c: Chain, part: &mut [u8], words: &[u32], at: usize) -> Stepped
     requires { Standing words.now at }
-    ensures answer { result ≡ verdict c (length part.old) (piece_at words.now at) }
+    ensures step { result ≡ step_of c (length part.old) (piece_at words.now at) }
     ensures part { part.new ≡ part_of c part.old (piece_at words.now at) }
 {
     let x = head_of(words[at]);
-    let base = base_of(c);
-    let answer = verdict(
-        is_stray(c, x),
-        c.packets,
-        base,
-        part.len(),
-        x.count,
-        is_last(x),
-    );
-    if answer <= TAKEN_IN {
-        put(part, base, words, at, x.count);
-        return answer;
+    match check(c, x, part.len()) {
+        Ok(()) => {
+            put(part, base_of(c), words, at, x.count);
+            Stepped {
+                answer: answer_taken(x),
+                chain: grown(c, x),
+            }
+        }
+        Err(refusal) => Stepped {
+            answer: answer_refused(refusal),
+            chain: refused(refusal, c),
+        },
     }
-    answer
 }
 
 // The same with the whole buffer, for chain k: what is lent to the step is that chain's own part.
-pub(crate) fn take(c: Chain, buffer: &mut [u8], k: usize, words: &[u32], at: usize) -> u32
+pub(crate) fn take(c: Chain, buffer: &mut [u8], k: usize, words: &[u32], at: usize) -> Stepped
     requires { (k < 32) × Standing words.now at }
-    ensures answer { result ≡ verdict c (share buffer.old) (piece_at words.now at) }
+    ensures step { result ≡ step_of c (share buffer.old) (piece_at words.now at) }
     ensures buffer { buffer.new
         ≡ with_part k (part_of c (part_at k buffer.old) (piece_at words.now at))
         buffer.old }
 {
-    let share = buffer.len() / 32;
+    let share = buffer.len() / CHAINS;
     let from = k * share;
     let end = from + share;
     step(c, &mut buffer[from..end], words, at)

@@ -6,9 +6,9 @@ ghost use Rattle.chains.specs.Turn.{begun, going_on, progress_after, turned_at};
 ghost use Rattle.chains.specs.Turn;
 
 use crate::check::{is_asked, whole_size};
-use crate::part::{after, take};
+use crate::part::take;
 use crate::{CHAINS, Chain, Collected, Progress, Turned, beside, is_dropping, named, unlisted};
-use piece::{head_of, slot_of};
+use piece::slot_of;
 use stream::{CUT, SENT, TAKEN_IN};
 
 // Where nothing has stopped a run over so many words.
@@ -41,9 +41,7 @@ pub fn start(chains: usize, words: usize) -> Progress
 fn onward(c: Chain, words: usize, report: Collected) -> Progress
     ensures { result ≡ Turn.onward c words report }
 {
-    let packets = c.packets;
-    let answer = report.answer;
-    if (answer == SENT) | (!(packets == 0) & is_dropping(answer)) {
+    if (report.answer == SENT) | ((c.packets != 0) & is_dropping(report.answer)) {
         return Progress {
             report,
             more: false,
@@ -70,17 +68,15 @@ pub fn turn(c: Chain, words: &[u32], at: usize, buffer: &mut [u8]) -> Turned
     }
     let end = at + n;
     if is_asked(words, at) {
-        let w = words[at];
-        let k = slot_of(w);
-        let answer = take(c, buffer, k, words, at);
-        let new = after(answer, c, head_of(w));
+        let k = slot_of(words[at]);
+        let step = take(c, buffer, k, words, at);
         return Turned {
             progress: onward(
                 c,
                 words.len(),
-                named(answer, end, k, buffer.len() / 32, new),
+                named(step.answer, end, k, buffer.len() / CHAINS, step.chain),
             ),
-            chain: new,
+            chain: step.chain,
             stays: false,
         };
     }

@@ -11,7 +11,7 @@ use Rattle.chains.specs.Turn.{named_by}
 use Rattle.chains.proofs.CollectLaws.{buffer-same, chain_same}
 use Rattle.chains.proofs.WithinLaws.{buffer-length}
 use Rattle.chains.proofs.StandLaws.{piece-some, standing, whole-at}
-use Rattle.chains.proofs.TurnLaws.{buffer-asked, called_is, chain-asked, fits-left, report-asked}
+use Rattle.chains.proofs.TurnLaws.{buffer-asked, called_is, chain-asked, report-asked}
 use Rattle.chains.proofs.TurnLaws.{report-cut}
 use Rattle.chains.proofs.call.Goals as goal
 
@@ -37,18 +37,11 @@ bounds-words-0 c =
     let e = eqb-true (refusal_of (drop 0 ws)) goes_on (sym c.is_asked.ensures ∙ c.if-is_asked.true) in
     omega (arith, (whole-at ws 0 (piece-some (drop 0 ws) e)).inside)
 
-pub take-answer-requires : goal.take-answer-requires
-take-answer-requires c =
+pub take-step-requires : goal.take-step-requires
+take-step-requires c =
     let ws = c.args.words.now in
     let e = eqb-true (refusal_of (drop 0 ws)) goes_on (sym c.is_asked.ensures ∙ c.if-is_asked.true) in
     (rw c.slot_of-k.ensures (slot-low _), standing ws 0 e)
-
-pub after-new-requires : goal.after-new-requires
-after-new-requires c =
-    let a = c.args in
-    let ws = a.words.now in
-    let e = eqb-true (refusal_of (drop 0 ws)) goes_on (sym c.is_asked.ensures ∙ c.if-is_asked.true) in
-    fits-left a.c a.buffer.now ws 0 e _ c.take-answer.ensures.answer _ c.head_of.ensures (omega arith)
 
 pub named-requires : goal.named-requires
 named-requires c =
@@ -60,23 +53,22 @@ returns-then-is_asked-clause-called c =
     let ws = a.words.now in
     let b = a.buffer.now in
     let e = eqb-true (refusal_of (drop 0 ws)) goes_on (sym c.is_asked.ensures ∙ c.if-is_asked.true) in
-    let t = c.take-answer in
+    let t = c.take-step in
     let k = c.slot_of-k.ensures in
     let m = t.ensures.buffer ∙ buffer-asked a.c b ws 0 _ e k in
     let l = ap length m ∙ buffer-length a.c b ws in
-    let g = c.head_of.ensures in
     let n = c.whole_size-n.ensures in
     let r = c.named.ensures
-    ∙ ap (λ (x : ℕ). named_by t.result c.whole_size-n.result c.slot_of-k.result (x / 32) c.after-new.result) l
-    ∙ report-asked a.c b ws 0 e _ t.ensures.answer _ g _ c.after-new.ensures _ _ n k in
-    called_is a.c b ws _ _ r (chain-asked a.c b ws 0 e _ t.ensures.answer _ g _ c.after-new.ensures)
+    ∙ ap (λ (x : ℕ). named_by t.result.answer c.whole_size-n.result c.slot_of-k.result (x / 32) t.result.chain) l
+    ∙ report-asked a.c b ws 0 e _ t.ensures.step _ _ n k in
+    called_is a.c b ws _ _ r (chain-asked a.c b ws 0 e _ t.ensures.step)
 
 pub returns-then-is_asked-clause-buffer : goal.returns-then-is_asked-clause-buffer
 returns-then-is_asked-clause-buffer c =
     let a = c.args in
     let ws = a.words.now in
     let e = eqb-true (refusal_of (drop 0 ws)) goes_on (sym c.is_asked.ensures ∙ c.if-is_asked.true) in
-    c.take-answer.ensures.buffer ∙ buffer-asked a.c a.buffer.now ws 0 _ e c.slot_of-k.ensures
+    c.take-step.ensures.buffer ∙ buffer-asked a.c a.buffer.now ws 0 _ e c.slot_of-k.ensures
 
 pub aside-requires : goal.aside-requires
 aside-requires c =

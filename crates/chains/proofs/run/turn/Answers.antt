@@ -17,7 +17,7 @@ use Rattle.ump.proofs.PacketLaws.{packet-length}
 use Rattle.chains.specs.declared.Progress.{Progress}
 use Rattle.chains.specs.Run.{further}
 use mathlib.Core.Bool.{false}
-use Rattle.chains.proofs.TurnLaws.{buffer-asked, chain-asked, fits-left, progress-asked, progress-cut}
+use Rattle.chains.proofs.TurnLaws.{buffer-asked, chain-asked, progress-asked, progress-cut}
 use Rattle.chains.proofs.TurnLaws.{progress-other, report-asked, turned-aside, turned-asked}
 use Rattle.chains.proofs.run.turn.Goals as goal
 
@@ -62,19 +62,12 @@ bounds-words-at c =
     let e = eqb-true (refusal_of (drop a.at ws)) goes_on (sym c.is_asked.ensures ∙ c.if-is_asked.true) in
     omega (arith, (whole-at ws a.at (piece-some (drop a.at ws) e)).inside)
 
-pub take-answer-requires : goal.take-answer-requires
-take-answer-requires c =
+pub take-step-requires : goal.take-step-requires
+take-step-requires c =
     let a = c.args in
     let ws = a.words.now in
     let e = eqb-true (refusal_of (drop a.at ws)) goes_on (sym c.is_asked.ensures ∙ c.if-is_asked.true) in
     (rw c.slot_of-k.ensures (slot-low _), standing ws a.at e)
-
-pub after-new-requires : goal.after-new-requires
-after-new-requires c =
-    let a = c.args in
-    let ws = a.words.now in
-    let e = eqb-true (refusal_of (drop a.at ws)) goes_on (sym c.is_asked.ensures ∙ c.if-is_asked.true) in
-    fits-left a.c a.buffer.now ws a.at e _ c.take-answer.ensures.answer _ c.head_of.ensures (omega arith)
 
 pub named-requires : goal.named-requires
 named-requires c =
@@ -86,25 +79,24 @@ returns-then-is_asked-clause-turned c =
     let ws = a.words.now in
     let b = a.buffer.now in
     let e = eqb-true (refusal_of (drop a.at ws)) goes_on (sym c.is_asked.ensures ∙ c.if-is_asked.true) in
-    let t = c.take-answer in
+    let t = c.take-step in
     let k = c.slot_of-k.ensures in
     let m = t.ensures.buffer ∙ buffer-asked a.c b ws a.at _ e k in
     let l = ap length m ∙ buffer-length a.c b (drop a.at ws) in
-    let g = c.head_of.ensures in
     let n = c.whole_size-n.ensures in
     let r = c.named.ensures
-    ∙ ap (λ (x : ℕ). named_by t.result (a.at + c.whole_size-n.result) c.slot_of-k.result (x / 32) c.after-new.result) l
-    ∙ ap (further a.at) (report-asked a.c b ws a.at e _ t.ensures.answer _ g _ c.after-new.ensures _ _ n k) in
+    ∙ ap (λ (x : ℕ). named_by t.result.answer (a.at + c.whole_size-n.result) c.slot_of-k.result (x / 32) t.result.chain) l
+    ∙ ap (further a.at) (report-asked a.c b ws a.at e _ t.ensures.step _ _ n k) in
     turned-asked a.c b ws a.at _
     (c.onward.ensures ∙ progress-asked a.c a.at (length ws) _ (drop a.at ws) e _ r) _ e
-    (chain-asked a.c b ws a.at e _ t.ensures.answer _ g _ c.after-new.ensures)
+    (chain-asked a.c b ws a.at e _ t.ensures.step)
 
 pub returns-then-is_asked-clause-buffer : goal.returns-then-is_asked-clause-buffer
 returns-then-is_asked-clause-buffer c =
     let a = c.args in
     let ws = a.words.now in
     let e = eqb-true (refusal_of (drop a.at ws)) goes_on (sym c.is_asked.ensures ∙ c.if-is_asked.true) in
-    c.take-answer.ensures.buffer ∙ buffer-asked a.c a.buffer.now ws a.at _ e c.slot_of-k.ensures
+    c.take-step.ensures.buffer ∙ buffer-asked a.c a.buffer.now ws a.at _ e c.slot_of-k.ensures
 
 pub returns-clause-turned : goal.returns-clause-turned
 returns-clause-turned c =
