@@ -1,14 +1,14 @@
 -- A call and a turn with the chain in the packet's slot are those over the list of 32. Assumes nothing.
 use Prim.Native.Nat.{ℕ, ◌<◌}
 use mathlib.Core.Path.{◌≡◌, sym, ap, ◌∙◌}
-use mathlib.Core.Bool.{true, false, false≢true, not, ◌&&◌}
+use mathlib.Core.Bool.{false, not, ◌&&◌}
 use mathlib.Core.List.{List}
 use mathlib.Core.Logic.{◌⊎◌, inl, inr}
 use native.Mathlib.Omega.{arith}
 use lib.Dec.{eqb}
 use lib.ListN.{drop, get_or, length, set, length-set}
 use lib.Seq.{set-get_or}
-use borrow.Author.Tests.{eq-eqb, lt-ltb}
+use borrow.Author.Tests.{eqb-false, lt-ltb}
 use Rattle.ground.proofs.Bools.{and-false}
 use Rattle.ump.specs.Packet.{first, packet}
 use Rattle.stream.specs.Answers.{bad_address, cut_packet}
@@ -107,13 +107,12 @@ module _ (cs : List Chain) (b ws : List ℕ) (at : ℕ) (full : length cs ≡ wh
   pub buffer-long : length (buffer_after cs b r) ≡ length b
   buffer-long = ap length (sym slot-buffer) ∙ buffer-length (old cs b ws at) b r
 
-  -- a chain that stays is as it was
-  pub slot-stays : not (eqb (refusal_of r) goes_on) ≡ true → set cs (slot cs b ws at) (old cs b ws at)
+  -- a chain that was not asked is as it was
+  pub slot-stays : eqb (refusal_of r) goes_on ≡ false → set cs (slot cs b ws at) (old cs b ws at)
       ≡ chains_after cs b r
-  slot-stays e = ap (set cs (slot cs b ws at)) (sym (chain_same (old cs b ws at) (share b) r (λ f. no f))) ∙ slot-chains
-    where
-      no : refusal_of r ≡ goes_on → ⊥
-      no f = false≢true (ap not (sym (eq-eqb (refusal_of r) goes_on f)) ∙ e)
+  slot-stays e =
+      ap (set cs (slot cs b ws at)) (sym (chain_same (old cs b ws at) (share b) r (eqb-false (refusal_of r) goes_on e)))
+      ∙ slot-chains
 
   calm : (refusal_of r ≡ goes_on → ⊥) → drops (refusal_of r) ≡ false
   calm n = go (same_or_not (length (packet r)) 0)

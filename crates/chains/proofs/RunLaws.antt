@@ -1,6 +1,6 @@
 -- What the loop of a run keeps: while there is more, the words read and then the run from here are the whole run; else
 -- all is done. Assumes nothing.
-use Prim.Native.Nat.{ℕ, suc, ◌+◌, ◌<◌, ◌≤◌}
+use Prim.Native.Nat.{ℕ, suc, ◌+◌, ◌-◌, ◌<◌, ◌≤◌}
 use mathlib.Core.Path.{◌≡◌, refl, sym, ap, ◌∙◌}
 use mathlib.Core.Bool.{Bool, true, false, cond, ◌&&◌}
 use mathlib.Core.List.{List, ◌∷◌}
@@ -10,7 +10,6 @@ use lib.ListN.{drop, get_or, length, take}
 use lib.Seq.{drop-cons}
 use borrow.Author.Tests.{eqb-true, eqb-false, ltb-false, ltb-true}
 use Rattle.ground.proofs.Bools.{neither_left, neither_right}
-use Rattle.ground.proofs.Cases.{not-both}
 use Rattle.ump.specs.Packet.{cut, first, packet, size}
 use Rattle.ump.proofs.PacketLaws.{cut_at, cut-end, packet-near, size-range}
 use Rattle.stream.specs.Answers.{bad_address, cut_packet, sent, taken_in}
@@ -18,13 +17,13 @@ use Rattle.screen.specs.Screen.{answering, goes_on}
 use Rattle.piece.specs.Piece.{chain_by, piece_in}
 use Rattle.chains.specs.declared.Chain.{Chain}
 use Rattle.chains.specs.declared.Collected.{Collected}
-use Rattle.chains.specs.declared.Progress.{Progress}
+use Rattle.std.specs.declared.ops.ControlFlow.TheVariants.{Break, Continue}
 use Rattle.chains.specs.Step.{part_of, step_of}
 use Rattle.chains.specs.Collect.{beside, buffer_after, buffer_with, chain_at, chain_with, chains_after}
 use Rattle.chains.specs.Collect.{collected, collected_of, kept_open, part_at, report_of, report_with, share}
 use Rattle.chains.specs.Collect.{sorted, unlisted, whole_list, with_part}
 use Rattle.chains.specs.Run.{Ran, behind, drops, further, open_at, run_of, run_over, stops}
-use Rattle.chains.specs.Turn.{begun, going_on, progress_of}
+use Rattle.chains.specs.Turn.{Progress, begun, going_on, progress_of}
 use Rattle.chains.proofs.CollectLaws.{whole-report}
 use Rattle.chains.proofs.WithinLaws.{reads}
 use Rattle.chains.proofs.StandLaws.{whole-at, words-of}
@@ -92,24 +91,29 @@ behind-behind n m r =
     let e : n + (m + r.report.read) ≡ n + m + r.report.read = omega arith in
     rw e
 
+-- how many turns there may still be over the words
+abbrev pub left : List ℕ → Progress → ℕ
+left ws (Continue at) = suc (length ws - at)
+left ws (Break r) = 0
+
 module _ (cs₀ : List Chain) (b₀ ws : List ℕ) where
   -- while there is more, and at the end
-  abbrev pub Stands : Bool → Progress → List Chain → List ℕ → Type 0
-  Stands true p cs b =
+  abbrev pub Stands : Progress → List Chain → List ℕ → Type 0
+  Stands (Continue at) cs b =
       (length cs ≡ whole_list)
-      × (run_of cs₀ b₀ ws ≡ behind p.report.read (run_over cs b (cut (drop p.report.read ws))))
-      × (p.report.read < length ws)
-  Stands false p cs b = record { report = p.report; chains = cs; buffer = b } ≡ run_of cs₀ b₀ ws
+      × (run_of cs₀ b₀ ws ≡ behind at (run_over cs b (cut (drop at ws))))
+      × (at < length ws)
+  Stands (Break r) cs b = record { report = r; chains = cs; buffer = b } ≡ run_of cs₀ b₀ ws
 
   -- at a place where nothing stopped the run
   going : (cs : List Chain) (b : List ℕ) (at : ℕ) → length cs ≡ whole_list
       → run_of cs₀ b₀ ws ≡ behind at (run_over cs b (cut (drop at ws)))
-      → Stands (going_on at (length ws)).more (going_on at (length ws)) cs b
+      → Stands (going_on at (length ws)) cs b
   unfolding beside run_over
   going cs b at full e = go (ltb at (length ws)) refl
     where
       go : (m : Bool) → ltb at (length ws) ≡ m
-          → Stands m (record { report = beside (answering taken_in) at; more = m }) cs b
+          → Stands (cond m (Continue at) (Break (beside (answering taken_in) at))) cs b
       go true h = (full, e, ltb-true at (length ws) h)
       go false h =
           let z : at + 0 ≡ at = omega arith in
@@ -119,34 +123,37 @@ module _ (cs₀ : List Chain) (b₀ ws : List ℕ) where
   none_before : (r : Ran) → r ≡ behind 0 r
   none_before r = let z : 0 + r.report.read ≡ r.report.read = omega arith in rw z
 
-  pub begins : Stands (begun (length cs₀) (length ws)).more (begun (length cs₀) (length ws)) cs₀ b₀
+  pub begins : Stands (begun (length cs₀) (length ws)) cs₀ b₀
   unfolding begun run_of
   begins = go (eqb (length cs₀) whole_list) refl
     where
       start : Bool → Progress
-      start t = cond t (going_on 0 (length ws)) (record { report = unlisted; more = false })
+      start t = cond t (going_on 0 (length ws)) (Break unlisted)
 
-      go : (t : Bool) → eqb (length cs₀) whole_list ≡ t → Stands (start t).more (start t) cs₀ b₀
+      go : (t : Bool) → eqb (length cs₀) whole_list ≡ t → Stands (start t) cs₀ b₀
       go true e = going cs₀ b₀ 0 (eqb-true (length cs₀) whole_list e) (rw e (none_before (run_over cs₀ b₀ (cut ws))))
       go false e = rw e
 
   -- one more turn
-  module _ (p : Progress) (cs : List Chain) (b : List ℕ) (st : Stands true p cs b) where
-    abbrev at : ℕ
-    at = p.report.read
-
+  module _ (at : ℕ) (cs : List Chain) (b : List ℕ) (st : Stands (Continue at) cs b) where
     abbrev r : Collected
     r = collected_of cs b (drop at ws)
 
-    pub turned : Stands (progress_of cs b ws at).more (progress_of cs b ws at) (chains_after cs b (drop at ws))
-        (buffer_after cs b (drop at ws))
-        × ((progress_of cs b ws at).more ≡ true → (at < (progress_of cs b ws at).report.read)
-        × ((progress_of cs b ws at).report.read ≤ length ws))
+    -- further on, fewer turns are left
+    closer : (n : ℕ) → at < n → n ≤ length ws → left ws (going_on n (length ws)) < left ws (Continue at)
+    closer n h m = go (ltb n (length ws))
+      where
+        go : (t : Bool) → left ws (cond t (Continue n) (Break (beside (answering taken_in) n))) < left ws (Continue at)
+        go true = omega arith
+        go false = omega arith
+
+    pub turned : Stands (progress_of cs b ws at) (chains_after cs b (drop at ws)) (buffer_after cs b (drop at ws))
+        × (left ws (progress_of cs b ws at) < left ws (Continue at))
     unfolding progress_of beside
     turned = go (stops cs r) refl
       where
         after : Bool → Progress
-        after t = cond t (record { report = further at r; more = false }) (going_on (at + r.read) (length ws))
+        after t = cond t (Break (further at r)) (going_on (at + r.read) (length ws))
 
         told : r ≡ report_of cs b (drop at ws)
         told = whole-report cs b (drop at ws) st.0
@@ -158,10 +165,9 @@ module _ (cs₀ : List Chain) (b₀ ws : List ℕ) where
             eqb-false r.answer cut_packet f (ap (λ (x : Collected). x.answer) (told
             ∙ report-cut _ (share b) (drop at ws) z))
 
-        go : (t : Bool) → stops cs r ≡ t → Stands (after t).more (after t) (chains_after cs b (drop at ws))
-            (buffer_after cs b (drop at ws))
-            × ((after t).more ≡ true → (at < (after t).report.read) × ((after t).report.read ≤ length ws))
-        go true e = (sym (st.1 ∙ ap (behind at) (run_at cs b ws at st.2 ∙ rw e)), λ q. not-both q)
+        go : (t : Bool) → stops cs r ≡ t → Stands (after t) (chains_after cs b (drop at ws))
+            (buffer_after cs b (drop at ws)) × (left ws (after t) < left ws (Continue at))
+        go true e = (sym (st.1 ∙ ap (behind at) (run_at cs b ws at st.2 ∙ rw e)), omega arith)
         go false e =
             let w = whole-at ws at (some e) in
             let k : r.read ≡ size (get_or ws at 0) =
@@ -172,5 +178,5 @@ module _ (cs₀ : List Chain) (b₀ ws : List ℕ) where
             ws)) (cut (drop m ws)))) n in (
               going (chains_after cs b (drop at ws)) (buffer_after cs b (drop at ws)) (at + r.read)
                   (chains-long cs b ws at st.0 ∙ st.0) f,
-              λ q. (omega (arith, k, (size-range (get_or ws at 0)).0), omega (arith, k, w.fits)),
+              closer (at + r.read) (omega (arith, k, (size-range (get_or ws at 0)).0)) (omega (arith, k, w.fits)),
             )

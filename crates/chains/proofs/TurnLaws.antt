@@ -24,7 +24,8 @@ use Rattle.piece.proofs.PieceLaws.{slot-chain}
 use Rattle.chains.specs.declared.Called.{Called}
 use Rattle.chains.specs.declared.Chain.{Chain}
 use Rattle.chains.specs.declared.Collected.{Collected}
-use Rattle.chains.specs.declared.Progress.{Progress}
+use Rattle.std.specs.Prelude.{None, Some}
+use Rattle.std.specs.declared.ops.ControlFlow.TheVariants.{Break}
 use Rattle.chains.specs.declared.Turned.{Turned}
 use Rattle.chains.specs.declared.part.Stepped.{Stepped}
 use Rattle.chains.specs.Step.{base_of, finishes, part_of, step_of, strays, verdict_by}
@@ -33,10 +34,10 @@ use Rattle.chains.specs.Collect.{piece_of}
 use Rattle.chains.specs.Collect.{refusal_of, report_with, share, sort_by, sorted, with_part}
 use Rattle.chains.specs.Run.{drops, further}
 use Rattle.chains.specs.Turn.{besides, called_with, going_on, named_by, onward, piece_at}
-use Rattle.chains.specs.Turn.{progress_after, turned_at}
+use Rattle.chains.specs.Turn.{Progress, progress_after, turned_at}
 use Rattle.chains.proofs.SortLaws.{chain-low, screen-no-address}
 use Rattle.chains.proofs.StepLaws.{step-answer}
-use Rattle.chains.proofs.CollectLaws.{buffer-piece, chain-piece, chain_same, report-beside, report-kept}
+use Rattle.chains.proofs.CollectLaws.{buffer-piece, chain-piece, report-beside, report-kept}
 use Rattle.chains.proofs.CollectLaws.{report-piece}
 use Rattle.chains.proofs.WithinLaws.{answer-other, reads}
 use Rattle.chains.proofs.StandLaws.{piece-at, slot_at}
@@ -175,8 +176,7 @@ no_cut c n x =
 -- how far a run is after a call
 module _ (c : Chain) (at n m : ℕ) (s : List ℕ) where
   pub progress-cut : length (packet s) ≡ 0
-      → ◌≡◌ {A = Progress} (record { report = besides cut_packet 0 at; more = false })
-      (progress_after c at n (report_with c m s))
+      → ◌≡◌ {A = Progress} (Break (besides cut_packet 0 at)) (progress_after c at n (report_with c m s))
   unfolding progress_after beside
   progress-cut z =
       let e : at + 0 ≡ at = omega arith in
@@ -201,11 +201,11 @@ module _ (c : Chain) (at n m : ℕ) (s : List ℕ) where
 module _ (c : Chain) (b ws : List ℕ) (at : ℕ) (t : Progress)
     (goes : t ≡ progress_after c at (length ws) (report_with c (share b) (drop at ws))) where
   pub turned-asked : (g : Chain) → refusal_of (drop at ws) ≡ goes_on → g ≡ chain_with c (share b) (drop at ws)
-      → ◌≡◌ {A = Turned} (record { progress = t; chain = g; stays = false }) (turned_at c b ws at)
+      → ◌≡◌ {A = Turned} (record { progress = t; chain = Some g }) (turned_at c b ws at)
   unfolding turned_at
   turned-asked g e f = rw (goes, f, eq-eqb (refusal_of (drop at ws)) goes_on e)
 
   pub turned-aside : (refusal_of (drop at ws) ≡ goes_on → ⊥)
-      → ◌≡◌ {A = Turned} (record { progress = t; chain = c; stays = true }) (turned_at c b ws at)
+      → ◌≡◌ {A = Turned} (record { progress = t; chain = None }) (turned_at c b ws at)
   unfolding turned_at
-  turned-aside n = rw (goes, chain_same c (share b) (drop at ws) n, ne_eqb (refusal_of (drop at ws)) goes_on n)
+  turned-aside n = rw (goes, ne_eqb (refusal_of (drop at ws)) goes_on n)

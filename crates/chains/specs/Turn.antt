@@ -1,6 +1,6 @@
 -- What the functions promise that see one chain by value, beside the definitions of a call and a run: a piece by its
 -- head and by the words from a place on, a call with one chain, and a turn of a run.
-use Rattle.std.specs.Prelude.{ℕ, ◌+◌, ◌*◌, ◌≤◌, ◌≡◌, Bool, false, cond, not, ◌&&◌, ◌||◌, List, [], drop, get_or, length}
+use Rattle.std.specs.Prelude.{ℕ, ◌+◌, ◌*◌, ◌≤◌, ◌≡◌, Bool, cond, not, ◌&&◌, ◌||◌, List, [], drop, get_or, length}
 use Rattle.std.specs.Prelude.{eqb, ltb, Err, Ok, Result}
 use Rattle.ump.specs.Word.{message_type}
 use Rattle.stream.specs.Answers.{cut_packet, out_of_turn, sent, taken_in, too_long, too_many_packets}
@@ -10,7 +10,9 @@ use Rattle.piece.specs.Piece.{Piece, flex, piece_for}
 use Rattle.chains.specs.declared.Chain.{Chain}
 use Rattle.chains.specs.declared.Collected.{Collected}
 use Rattle.chains.specs.declared.Called.{Called}
-use Rattle.chains.specs.declared.Progress.{Progress}
+use Rattle.std.specs.Prelude.{None, Some}
+use Rattle.std.specs.declared.ops.ControlFlow.{ControlFlow}
+use Rattle.std.specs.declared.ops.ControlFlow.TheVariants.{Break, Continue}
 use Rattle.chains.specs.declared.Turned.{Turned}
 use Rattle.chains.specs.declared.part.Refusal.{Refusal}
 use Rattle.chains.specs.declared.part.Refusal.TheVariants.{OutOfTurn, TooLong, TooManyPackets}
@@ -51,9 +53,9 @@ abbrev pub named_by : ℕ → ℕ → ℕ → ℕ → Chain → Collected
 named_by a read k n c =
     record { answer = a; place = 0; read = read; chain = k; start = k * n; length = c.length }
 
--- whether no chain is asked about the packet that stands first
-abbrev pub unasked : List ℕ → Bool
-unasked s = not (eqb (refusal_of s) goes_on)
+-- whether a chain is asked about the packet that stands first
+abbrev pub is_asked : List ℕ → Bool
+is_asked s = eqb (refusal_of s) goes_on
 
 -- a call with the chain c
 unfoldable pub called_with : Chain → List ℕ → List ℕ → Called
@@ -63,35 +65,37 @@ called_with c b s = record { report = report_with c (share b) s; chain = chain_w
 abbrev pub halts : Chain → Collected → Bool
 halts c r = eqb r.answer sent || (eqb r.answer cut_packet || (not (closed c) && drops r.answer))
 
--- how far a run over n words is at a place where nothing stopped it
+-- how far a run is: it goes on at a place, or is done with its report
+abbrev pub Progress : Type 0
+Progress = ControlFlow Collected ℕ
+
+-- over n words, at a place where nothing stopped it
 abbrev pub going_on : ℕ → ℕ → Progress
-going_on at n = record { report = beside (answering taken_in) at; more = ltb at n }
+going_on at n = cond (ltb at n) (Continue at) (Break (beside (answering taken_in) at))
 
 -- after a piece whose report r has all words read by then
 unfoldable pub onward : Chain → ℕ → Collected → Progress
 onward c n r =
-    cond (eqb r.answer sent || (not (closed c) && drops r.answer)) (record { report = r; more = false })
-    (going_on r.read n)
+    cond (eqb r.answer sent || (not (closed c) && drops r.answer)) (Break r) (going_on r.read n)
 
 -- and after a call there
 unfoldable pub progress_after : Chain → ℕ → ℕ → Collected → Progress
-progress_after c at n r = cond (halts c r) (record { report = further at r; more = false }) (going_on (at + r.read) n)
+progress_after c at n r = cond (halts c r) (Break (further at r)) (going_on (at + r.read) n)
 
 -- before the first packet, with so many chains and words
 unfoldable pub begun : ℕ → ℕ → Progress
-begun chains n = cond (eqb chains whole_list) (going_on 0 n) (record { report = unlisted; more = false })
+begun chains n = cond (eqb chains whole_list) (going_on 0 n) (Break unlisted)
 
 -- a turn at a place of the words with the chain c
 unfoldable pub turned_at : Chain → List ℕ → List ℕ → ℕ → Turned
 turned_at c b ws at =
     record {
       progress = progress_after c at (length ws) (report_with c (share b) (drop at ws));
-      chain = chain_with c (share b) (drop at ws);
-      stays = unasked (drop at ws);
+      chain = cond (is_asked (drop at ws)) (Some (chain_with c (share b) (drop at ws))) None;
     }
 
 -- the same turn over a list of chains
 unfoldable pub progress_of : List Chain → List ℕ → List ℕ → ℕ → Progress
 progress_of cs b ws at =
     let r = collected_of cs b (drop at ws) in
-    cond (stops cs r) (record { report = further at r; more = false }) (going_on (at + r.read) (length ws))
+    cond (stops cs r) (Break (further at r)) (going_on (at + r.read) (length ws))

@@ -24,6 +24,7 @@ use check::{is_asked, is_good, whole_size};
 use part::take;
 use piece::{NO_CHAIN, has_strange_address, slot_of};
 use screen::{NEITHER_TYPE, screen};
+use std::ops::ControlFlow;
 use stream::{BAD_ADDRESS, CUT, NO_TABLE, OUT_OF_TURN, TAKEN_IN, TOO_LONG, TOO_MANY_PACKETS};
 use ump::{packet_at, word_at};
 
@@ -60,19 +61,14 @@ pub struct Called {
     pub chain: Chain,
 }
 
-// How far a run is: the report so far, and whether another packet is to be taken.
-#[derive(Clone, Copy)]
-pub struct Progress {
-    pub report: Collected,
-    pub more: bool,
-}
+// How far a run is: it goes on at a place of the words, or is done with its report.
+pub type Progress = ControlFlow<Collected, usize>;
 
-// A turn of a run: how far it is then, the chain after it, and whether that is as it was.
+// A turn of a run: how far it is then, and the chain after it, where that was asked.
 #[derive(Clone, Copy)]
 pub struct Turned {
     pub progress: Progress,
-    pub chain: Chain,
-    pub stays: bool,
+    pub chain: Option<Chain>,
 }
 
 // A chain before its first packet: none is open.

@@ -15,9 +15,10 @@ use stream::{CUT, SENT, TAKEN_IN};
 fn going_on(at: usize, words: usize) -> Progress
     ensures { result ≡ going_on at words }
 {
-    Progress {
-        report: beside(TAKEN_IN, 0, at),
-        more: at < words,
+    if at < words {
+        Progress::Continue(at)
+    } else {
+        Progress::Break(beside(TAKEN_IN, 0, at))
     }
 }
 
@@ -29,10 +30,7 @@ pub fn start(chains: usize, words: usize) -> Progress
     if chains == CHAINS {
         return going_on(0, words);
     }
-    Progress {
-        report: unlisted(),
-        more: false,
-    }
+    Progress::Break(unlisted())
 }
 
 // After a piece that is told so, with all words read by then: a message that is whole and an open chain
@@ -42,10 +40,7 @@ fn onward(c: Chain, words: usize, report: Collected) -> Progress
     ensures { result ≡ Turn.onward c words report }
 {
     if (report.answer == SENT) | ((c.packets != 0) & is_dropping(report.answer)) {
-        return Progress {
-            report,
-            more: false,
-        };
+        return Progress::Break(report);
     }
     going_on(report.read, words)
 }
@@ -58,12 +53,8 @@ pub fn turn(c: Chain, words: &[u32], at: usize, buffer: &mut [u8]) -> Turned
     let n = whole_size(words, at);
     if n == 0 {
         return Turned {
-            progress: Progress {
-                report: beside(CUT, 0, at),
-                more: false,
-            },
-            chain: c,
-            stays: true,
+            progress: Progress::Break(beside(CUT, 0, at)),
+            chain: None,
         };
     }
     let end = at + n;
@@ -76,13 +67,11 @@ pub fn turn(c: Chain, words: &[u32], at: usize, buffer: &mut [u8]) -> Turned
                 words.len(),
                 named(step.answer, end, k, buffer.len() / CHAINS, step.chain),
             ),
-            chain: step.chain,
-            stays: false,
+            chain: Some(step.chain),
         };
     }
     Turned {
         progress: going_on(end, words.len()),
-        chain: c,
-        stays: true,
+        chain: None,
     }
 }

@@ -1,6 +1,6 @@
 -- What a call and a turn over the list say, from what those with one chain say of the chain that is read: `e` is what is
 -- read past the end, where no packet's chain stands. Assumes nothing.
-use Rattle.std.proofs.Common.{◌≡◌, ◌∙◌, ℕ, ◌<◌, true, List, length, get_or, set, drop, ap, sym, subst}
+use Rattle.std.proofs.Common.{◌≡◌, ◌∙◌, ℕ, ◌<◌, Bool, true, false, cond, refl, None, Some, eqb, List, length, get_or, set, drop, ap, sym, subst}
 use Rattle.std.proofs.lemmas.List.{get_or_default}
 use lib.Seq.{set-get_or}
 use Rattle.piece.specs.Piece.{slot_by}
@@ -8,7 +8,9 @@ use Rattle.chains.specs.declared.Chain.{Chain}
 use Rattle.chains.specs.declared.Called.{Called}
 use Rattle.chains.specs.declared.Turned.{Turned}
 use Rattle.chains.specs.Step.{fresh}
-use Rattle.chains.specs.Collect.{buffer_after, buffer_with, chains_after, collected_of, whole_list}
+use Rattle.screen.specs.Screen.{goes_on}
+use Rattle.chains.specs.Collect.{buffer_after, buffer_with, chain_with, chains_after, collected_of, refusal_of, share}
+use Rattle.chains.specs.Collect.{whole_list}
 use Rattle.chains.specs.Turn.{called_with, progress_of, turned_at}
 use Rattle.chains.proofs.ListLaws.{slot-buffer, slot-chains, slot-inside, slot-progress, slot-report, slot-stays}
 
@@ -36,18 +38,31 @@ module _ (cs : List Chain) (b ws : List ℕ) (at : ℕ) (full : length cs ≡ wh
       unfolding turned_at
       turn-progress = ap (λ (x : Turned). x.progress) turn_is ∙ slot-progress cs b ws at full
 
-      pub turn-chains : set cs i s.chain ≡ chains_after cs b (drop at ws)
+      pub turn-chains : (c : Chain) → s.chain ≡ Some c → set cs i c ≡ chains_after cs b (drop at ws)
       unfolding turned_at
-      turn-chains =
-          ap (λ (x : Turned). set cs i x.chain) turn_is
-          ∙ ap (λ (n : ℕ). set cs n (turned_at (get_or cs (slot_by (get_or ws at 0)) fresh) b ws at).chain) p
-          ∙ slot-chains cs b ws at full
+      turn-chains c h = go (eqb (refusal_of (drop at ws)) goes_on) (sym (ap (λ (x : Turned). x.chain) turn_is) ∙ h)
+        where
+          new : Chain
+          new = chain_with (get_or cs (slot_by (get_or ws at 0)) fresh) (share b) (drop at ws)
 
-      pub turn-stays : s.stays ≡ true → cs ≡ chains_after cs b (drop at ws)
+          go : (t : Bool) → cond t (Some new) None ≡ Some c → set cs i c ≡ chains_after cs b (drop at ws)
+          go true e =
+              let f : new ≡ c = cc in
+              ap (λ (x : Chain). set cs i x) (sym f) ∙ ap (λ (n : ℕ). set cs n new) p ∙ slot-chains cs b ws at full
+          go false e = absurd (cc)
+
+      pub turn-stays : s.chain ≡ None → cs ≡ chains_after cs b (drop at ws)
       unfolding turned_at
       turn-stays h =
-          sym (set-get_or cs (slot_by (get_or ws at 0)) fresh)
-          ∙ slot-stays cs b ws at full (sym (ap (λ (x : Turned). x.stays) turn_is) ∙ h)
+          go (eqb (refusal_of (drop at ws)) goes_on) refl (sym (ap (λ (x : Turned). x.chain) turn_is) ∙ h)
+        where
+          new : Chain
+          new = chain_with (get_or cs (slot_by (get_or ws at 0)) fresh) (share b) (drop at ws)
+
+          go : (t : Bool) → eqb (refusal_of (drop at ws)) goes_on ≡ t → cond t (Some new) None ≡ None
+              → cs ≡ chains_after cs b (drop at ws)
+          go true f e = absurd (cc)
+          go false f e = sym (set-get_or cs (slot_by (get_or ws at 0)) fresh) ∙ slot-stays cs b ws at full f
 
 -- a call at the start of the words
 module _ (cs : List Chain) (b ws : List ℕ) (full : length cs ≡ whole_list) (i : ℕ) (p : i ≡ slot_by (get_or ws 0 0))

@@ -1,4 +1,3 @@
 pub mod Said
 pub mod Marks
 pub mod ChainSlots
-pub mod ChainTurns

@@ -32,16 +32,13 @@ pub extern "C" fn quernbrae_collect(
     ensures buffer { buffer.new
         ≡ buffer_after chains.old buffer.old words.now }
 {
-    let n = chains.len();
-    if n == CHAINS {
-        let i = chains::slot_at(words, 0);
-        let s = chains::call(chains[i], words, buffer);
-        let after = s.chain;
-        chains[i] = after;
-        s.report
-    } else {
-        chains::unlisted()
+    if chains.len() != CHAINS {
+        return chains::unlisted();
     }
+    let i = chains::slot_at(words, 0);
+    let called = chains::call(chains[i], words, buffer);
+    chains[i] = called.chain;
+    called.report
 }
 
 // A turn of the run at a place of the words, over a list of 32.
@@ -55,14 +52,11 @@ pub(crate) fn one(words: &[u32], at: usize, chains: &mut [Chain], buffer: &mut [
         ≡ buffer_after chains.old buffer.old (drop at words.now) }
 {
     let i = chains::slot_at(words, at);
-    let s = chains::run::turn(chains[i], words, at, buffer);
-    if s.stays {
-        s.progress
-    } else {
-        let after = s.chain;
-        chains[i] = after;
-        s.progress
+    let turned = chains::run::turn(chains[i], words, at, buffer);
+    if let Some(chain) = turned.chain {
+        chains[i] = chain;
     }
+    turned.progress
 }
 
 // The calls at the packets of the words, one after another, until a message is whole, an open chain is
@@ -80,10 +74,11 @@ pub extern "C" fn quernbrae_run_collect(
     ensures buffer { buffer.new
         ≡ (run_of chains.old buffer.old words.now).buffer }
 {
-    let mut p = chains::run::start(chains.len(), words.len());
-    while p.more {
-        let report = p.report;
-        p = one(words, report.read, chains, buffer);
+    let mut progress = chains::run::start(chains.len(), words.len());
+    loop {
+        match progress {
+            Progress::Continue(at) => progress = one(words, at, chains, buffer),
+            Progress::Break(report) => return report,
+        }
     }
-    p.report
 }

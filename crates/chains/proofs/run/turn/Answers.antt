@@ -14,25 +14,20 @@ use Rattle.chains.proofs.WithinLaws.{buffer-length}
 use Rattle.chains.proofs.StandLaws.{piece-some, standing, whole-at}
 use Rattle.ump.specs.Packet.{packet}
 use Rattle.ump.proofs.PacketLaws.{packet-length}
-use Rattle.chains.specs.declared.Progress.{Progress}
+use Rattle.std.specs.declared.ops.ControlFlow.TheVariants.{Break}
 use Rattle.chains.specs.Run.{further}
-use mathlib.Core.Bool.{false}
 use Rattle.chains.proofs.TurnLaws.{buffer-asked, chain-asked, progress-asked, progress-cut}
 use Rattle.chains.proofs.TurnLaws.{progress-other, report-asked, turned-aside, turned-asked}
 use Rattle.chains.proofs.run.turn.Goals as goal
 
-stopped : Collected → Progress
-stopped r = record { report = r; more = false }
-
 pub returns-then-n-eq0-clause-turned : goal.returns-then-n-eq0-clause-turned
-unfolding stopped
 returns-then-n-eq0-clause-turned c =
     let a = c.args in
     let ws = a.words.now in
     let z = sym c.whole_size-n.ensures ∙ c.if-n-eq0.true in
     let e : refusal_of (drop a.at ws) ≡ goes_on → ⊥ = λ f. piece-some (drop a.at ws) f z in
     turned-aside a.c a.buffer.now ws a.at _
-    (ap (λ (x : Collected). stopped x) c.beside.ensures ∙ progress-cut a.c a.at _ _ (drop a.at ws) z) e
+    (ap (λ (x : Collected). Break x) c.beside.ensures ∙ progress-cut a.c a.at _ _ (drop a.at ws) z) e
 
 pub returns-then-n-eq0-clause-buffer : goal.returns-then-n-eq0-clause-buffer
 returns-then-n-eq0-clause-buffer c =

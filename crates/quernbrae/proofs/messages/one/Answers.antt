@@ -1,6 +1,6 @@
 -- `quernbrae::messages::one` meets its contract: the turn with the chain in the packet's slot is the turn over the list, and
 -- a chain that was not asked stays. Assumes nothing.
-use Rattle.std.proofs.Common.{◌<◌, arith}
+use Rattle.std.proofs.Common.{arith}
 use Rattle.quernbrae.proofs.ChainSlots.{left-buffer, read-inside, turn-chains, turn-progress, turn-stays}
 use Rattle.quernbrae.proofs.messages.one.Goals as goal
 
@@ -16,8 +16,8 @@ slice_copy_out-turn c =
     let a = c.args in
     read-inside a.chains.now a.buffer.now a.words.now a.at c.requires c.slot_at-i.result c.slot_at-i.ensures
 
-pub offset_bounds-chains-i-else-s : goal.offset_bounds-chains-i-else-s
-offset_bounds-chains-i-else-s c =
+pub offset_bounds-chains-i-in-Some : goal.offset_bounds-chains-i-in-Some
+offset_bounds-chains-i-in-Some c =
     let a = c.args in
     let i = c.slot_at-i in
     let h = read-inside a.chains.now a.buffer.now a.words.now a.at c.requires i.result i.ensures in
@@ -28,30 +28,33 @@ bounds-chains-i c =
     let a = c.args in
     read-inside a.chains.now a.buffer.now a.words.now a.at c.requires c.slot_at-i.result c.slot_at-i.ensures
 
-pub returns-then-s : goal.returns-then-s
-returns-then-s c =
+pub returns-in_default : goal.returns-in_default
+returns-in_default c =
     let a = c.args in
     let i = c.slot_at-i in
-    let s = c.turn-s in
+    let s = c.turn-turned in
     let e = s.ensures.turned in
     record {
       progress = turn-progress a.chains.now a.buffer.now a.words.now a.at c.requires i.result i.ensures _ s.result e;
       chains =
-          turn-stays a.chains.now a.buffer.now a.words.now a.at c.requires i.result i.ensures _ s.result e c.if-s.true;
+          turn-stays a.chains.now a.buffer.now a.words.now a.at c.requires i.result i.ensures _ s.result e
+          c.in_default.is;
       buffer =
           left-buffer a.chains.now a.buffer.now a.words.now a.at c.requires i.result i.ensures _ s.new.buffer
           s.ensures.buffer;
     }
 
-pub returns-else-s : goal.returns-else-s
-returns-else-s c =
+pub returns-in-Some : goal.returns-in-Some
+returns-in-Some c =
     let a = c.args in
     let i = c.slot_at-i in
-    let s = c.turn-s in
+    let s = c.turn-turned in
     let e = s.ensures.turned in
     record {
       progress = turn-progress a.chains.now a.buffer.now a.words.now a.at c.requires i.result i.ensures _ s.result e;
-      chains = turn-chains a.chains.now a.buffer.now a.words.now a.at c.requires i.result i.ensures _ s.result e;
+      chains =
+          turn-chains a.chains.now a.buffer.now a.words.now a.at c.requires i.result i.ensures _ s.result e _
+          c.in-Some.is;
       buffer =
           left-buffer a.chains.now a.buffer.now a.words.now a.at c.requires i.result i.ensures _ s.new.buffer
           s.ensures.buffer;
