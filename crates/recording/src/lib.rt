@@ -5,45 +5,61 @@
 // holds after it, on every input.
 #![tactic(auto)]
 
-ghost use Rattle.std.specs.Prelude.{◌≡◌, slice_index_or};
+ghost use Rattle.std.specs.Prelude.{◌≡◌};
 ghost use Rattle.text.specs.Lines.{place_after, with_row};
-ghost use Rattle.recording.specs.Recording.{cut_line, header, header_answer, is_said, is_stamp, left_line};
-ghost use Rattle.recording.specs.Recording.{line_kept, line_of, no_byte, passes, past_after, stamp_after};
-ghost use Rattle.recording.specs.Recording.{stamp_of, start, text_of, ticks_between};
+ghost use Rattle.recording.specs.Recording.{cut_line, header, header_answer, left_line, line_kept, line_of};
+ghost use Rattle.recording.specs.Recording.{number_of, passes, past_after, place_if_put, stamp_in, start};
+ghost use Rattle.recording.specs.Recording.{text_of, ticks_between};
 
 use screen::{GOES_ON, NEITHER_TYPE};
-use stream::{CUT, SENT, WRONG_MARK, WRONG_VERSION};
+use stream::{CUT, WRONG_MARK, WRONG_VERSION};
 use ump::{message_type, status, word_at};
 
 // How many bytes the header has.
 pub const HEADER_BYTES: usize = 5;
 
-// What stands for a byte that is missing.
-const NO_BYTE: u32 = 0x100;
+// How many of them are the mark.
+const MARK_BYTES: usize = 3;
 
 // The status of a JR Timestamp, whose message type is 0.
 const JR_TIMESTAMP: u32 = 2;
 
-// The last JR Timestamp, where there was one.
-#[derive(Clone, Copy)]
-pub enum Stamp {
-    Missing,
-    At(u16),
+// Why a file is no recording.
+#[derive(Clone, Copy, PartialEq, Eq)]
+pub enum HeaderError {
+    WrongMark,
+    WrongVersion,
 }
 
-// What went before a packet: how many words, and the last stamp.
+impl HeaderError {
+    // The answer that it is said by.
+    pub fn answer(self) -> u32
+        ensures { result ≡ number_of self }
+    {
+        match self {
+            HeaderError::WrongMark => WRONG_MARK,
+            HeaderError::WrongVersion => WRONG_VERSION,
+        }
+    }
+}
+
+// What went before a packet: how many words, and the last JR Timestamp, where there was one.
 #[derive(Clone, Copy)]
 pub struct Past {
     pub place: u64,
-    pub stamp: Stamp,
+    pub stamp: Option<u16>,
 }
 
 // What is said: of a packet that is dropped its place, the answer, how many words it has and the place of
 // its bad field; how many ticks lie between two stamps; how many bytes are left over; or an answer alone.
 #[derive(Clone, Copy)]
 pub enum Line {
-    Nothing,
-    Drop(u64, u32, usize, u32),
+    Drop {
+        place: u64,
+        answer: u32,
+        words: usize,
+        field: u32,
+    },
     Ticks(u16),
     Bytes(usize),
     Answer(u32),
@@ -56,35 +72,19 @@ pub fn header_bytes() -> [u8; HEADER_BYTES]
     [b'U', b'P', b'K', 0, 1]
 }
 
-fn byte_at(bytes: &[u8], at: usize) -> u32
-    ensures { result ≡ slice_index_or bytes.now at no_byte }
-{
-    if at < bytes.len() {
-        wide(bytes[at])
-    } else {
-        NO_BYTE
-    }
-}
-
-fn wide(b: u8) -> u32
-    ensures { result ≡ b }
-{
-    b as u32
-}
-
-// What a file that begins with these bytes is answered with: the mark is asked for first.
-pub fn header_answer(bytes: &[u8]) -> u32
+// Whether a file that begins with these bytes is a recording: the mark is asked for first.
+#[tactic(auto, unfolding(crate::specs::Recording::header_answer))]
+pub fn header_answer(bytes: &[u8]) -> Result<(), HeaderError>
     ensures { result ≡ header_answer bytes.now }
 {
-    let marked = (byte_at(bytes, 0) == 0x55)
-        & (byte_at(bytes, 1) == 0x50)
-        & (byte_at(bytes, 2) == 0x4B);
-    let versioned = (byte_at(bytes, 3) == 0) & (byte_at(bytes, 4) == 1);
-    if marked {
-        if versioned { SENT } else { WRONG_VERSION }
-    } else {
-        WRONG_MARK
+    let header = header_bytes();
+    if !bytes.starts_with(&header[..MARK_BYTES]) {
+        return Err(HeaderError::WrongMark);
     }
+    if !bytes.starts_with(&header) {
+        return Err(HeaderError::WrongVersion);
+    }
+    Ok(())
 }
 
 // Whether a packet is kept.
@@ -95,47 +95,32 @@ pub fn is_kept(packet: &[u32]) -> bool
     found.answer == GOES_ON
 }
 
-// Whether a packet is a JR Timestamp, by its first word.
-fn is_stamp(w: u32) -> bool
-    ensures { result ≡ is_stamp w }
+// The stamp of a JR Timestamp, which is the low half of its word. Any other packet has none.
+fn stamp_in(w: u32) -> Option<u16>
+    ensures { result ≡ stamp_in w }
 {
-    (message_type(w) == 0) & (status(w) == JR_TIMESTAMP)
-}
-
-// The stamp of a JR Timestamp: the low half of its word.
-fn stamp_of(w: u32) -> u16
-    ensures { result ≡ stamp_of w }
-{
-    (w % 0x10000) as u16
+    if (message_type(w) == 0) & (status(w) == JR_TIMESTAMP) {
+        Some((w % 0x10000) as u16)
+    } else {
+        None
+    }
 }
 
 // The later stamp less the earlier, counted round.
 pub fn ticks(earlier: u16, later: u16) -> u16
     ensures { result ≡ ticks_between earlier later }
 {
-    std::num::wrapping_sub_u16(later, earlier)
+    later.wrapping_sub(earlier)
 }
 
 // What is said of a packet that is kept, by its first word.
-fn kept_line(stamp: Stamp, w: u32) -> Line
+#[tactic(auto, unfolding(crate::specs::Recording::line_kept))]
+fn kept_line(stamp: Option<u16>, w: u32) -> Option<Line>
     ensures { result ≡ line_kept stamp w }
 {
-    let later = stamp_of(w);
-    if is_stamp(w) {
-        match stamp {
-            Stamp::Missing => Line::Nothing,
-            Stamp::At(earlier) => Line::Ticks(ticks(earlier, later)),
-        }
-    } else {
-        Line::Nothing
-    }
-}
-
-fn stamp_after(stamp: Stamp, w: u32) -> Stamp
-    ensures { result ≡ stamp_after stamp w }
-{
-    let later = stamp_of(w);
-    if is_stamp(w) { Stamp::At(later) } else { stamp }
+    let later = stamp_in(w)?;
+    let earlier = stamp?;
+    Some(Line::Ticks(ticks(earlier, later)))
 }
 
 impl Past {
@@ -145,87 +130,98 @@ impl Past {
     {
         Past {
             place: 0,
-            stamp: Stamp::Missing,
+            stamp: None,
         }
     }
 
     // What is said of the packet that comes next.
-    pub fn line(self, packet: &[u32]) -> Line
+    #[tactic(auto, unfolding(crate::specs::Recording::line_of))]
+    pub fn line(self, packet: &[u32]) -> Option<Line>
         ensures { result ≡ line_of self packet.now }
     {
         let found = screen::screen(NEITHER_TYPE, packet);
-        let stamp = self.stamp;
         if found.answer == GOES_ON {
-            kept_line(stamp, word_at(packet, 0))
+            kept_line(self.stamp, word_at(packet, 0))
         } else {
-            Line::Drop(self.place, found.answer, packet.len(), found.place)
+            Some(Line::Drop {
+                place: self.place,
+                answer: found.answer,
+                words: packet.len(),
+                field: found.place,
+            })
         }
     }
 
     // And what then went before.
+    #[tactic(auto, unfolding(crate::specs::Recording::past_after, crate::specs::Recording::stamp_after))]
     pub fn after(self, packet: &[u32]) -> Past
         ensures { result ≡ past_after self packet.now }
     {
-        let stamp = self.stamp;
         Past {
-            place: std::num::wrapping_add_u64(self.place, packet.len() as u64),
-            stamp: stamp_after(stamp, word_at(packet, 0)),
+            place: self.place.wrapping_add(packet.len() as u64),
+            stamp: stamp_in(word_at(packet, 0)).or(self.stamp),
         }
     }
 }
 
 impl Line {
     // What is said of so many bytes that are left at the end, where they hold words of a cut packet.
-    pub fn cut(place: u64, left: usize) -> Line
+    #[tactic(auto, unfolding(crate::specs::Recording::cut_line))]
+    pub fn cut(place: u64, left: usize) -> Option<Line>
         ensures { result ≡ cut_line place left }
     {
         let words = left / 4;
         if words == 0 {
-            Line::Nothing
+            None
         } else {
-            Line::Drop(place, CUT, words, 0)
+            Some(Line::Drop {
+                place,
+                answer: CUT,
+                words,
+                field: 0,
+            })
         }
     }
 
     // And where they hold bytes of a cut word.
-    pub fn left(left: usize) -> Line
+    #[tactic(auto, unfolding(crate::specs::Recording::left_line))]
+    pub fn left(left: usize) -> Option<Line>
         ensures { result ≡ left_line left }
     {
         let bytes = left % 4;
         if bytes == 0 {
-            Line::Nothing
+            None
         } else {
-            Line::Bytes(bytes)
-        }
-    }
-
-    // Whether anything is said.
-    pub fn is_said(self) -> bool
-        ensures { result ≡ is_said self }
-    {
-        match self {
-            Line::Nothing => false,
-            Line::Drop(_, _, _, _) => true,
-            Line::Ticks(_) => true,
-            Line::Bytes(_) => true,
-            Line::Answer(_) => true,
+            Some(Line::Bytes(bytes))
         }
     }
 
     // Writes the line from a place on and answers the place after it, or, where it does not fit, writes
     // nothing and answers the place.
-    pub fn put(self, text: &mut [u8], to: usize) -> usize
-        ensures place { result ≡ place_after text.old to (text_of self) }
-        ensures text { text.new ≡ with_row text.old to (text_of self) }
+    #[tactic(auto, unfolding(crate::specs::Recording::text_of))]
+    fn put_or_stay(self, text: &mut [u8], to: usize) -> usize
+        ensures place { result ≡ place_after text.old to (text_of (Some self)) }
+        ensures text { text.new ≡ with_row text.old to (text_of (Some self)) }
     {
         match self {
-            Line::Nothing => to,
-            Line::Drop(place, answer, count, bad) => text::drop_line(
-                place, answer, count, bad, text, to,
-            ),
+            Line::Drop {
+                place,
+                answer,
+                words,
+                field,
+            } => text::drop_line(place, answer, words, field, text, to),
             Line::Ticks(n) => text::ticks_line(n as u64, text, to),
             Line::Bytes(n) => text::bytes_line(n as u64, text, to),
             Line::Answer(n) => text::number_line(n as u64, text, to),
         }
+    }
+
+    // Writes the line from a place on and answers the place after it. Where it does not fit, nothing is written.
+    pub fn put(self, text: &mut [u8], to: usize) -> Option<usize>
+        ensures place { result ≡ place_if_put text.old to (text_of (Some self)) }
+        ensures text { text.new ≡ with_row text.old to (text_of (Some self)) }
+    {
+        let end = self.put_or_stay(text, to);
+        if end == to { None } else { Some(end) }
     }
 }

@@ -10,7 +10,8 @@ use Rattle.ground.specs.Lists.{joined, sum}
 use Rattle.ground.proofs.Cases.{by_bool}
 use Rattle.ump.specs.Packet.{cut, first, packet}
 use Rattle.recording.specs.declared.Past.{Past}
-use Rattle.recording.specs.declared.Line.TheVariants.{Nothing, Drop}
+use Rattle.std.specs.Prelude.{None, Some}
+use Rattle.recording.specs.declared.Line.TheVariants.{Drop}
 use Rattle.recording.specs.Recording.{found, passes, past_after, start}
 use Rattle.rescue_claims.specs.Rescued.{AddsUp, drop_words, kept_packets, lines_from}
 use Rattle.rescue_claims.proofs.PieceLaws.{joined-cut}
@@ -32,15 +33,15 @@ words (p ∷ ps) past =
 
 placed : (ps : List (List ℕ)) (past : Past) (p : List ℕ) (qs : List (List ℕ)) → passes (packet p) ≡ false
     → past.place + length (joined ps) < 2 ^ 64
-    → get_or (lines_from past (ps ++ (p ∷ qs))) (length ps) Nothing
-    ≡ Drop (past.place + length (joined ps)) (found (packet p)).answer (length p) (found (packet p)).place
+    → get_or (lines_from past (ps ++ (p ∷ qs))) (length ps) None
+    ≡ Some (Drop (past.place + length (joined ps)) (found (packet p)).answer (length p) (found (packet p)).place)
 unfolding lines_from past_after
 placed [] past p qs e h = rw (e, add-zero past.place)
 placed (q ∷ ps) past p qs e h =
     let a = length-append q (joined ps) in
     let m : (past.place + length q) % 2 ^ 64 ≡ past.place + length q = omega arith in
     placed ps (past_after past q) p qs e (omega arith)
-    ∙ ap (λ (n : ℕ). Drop n (found (packet p)).answer (length p) (found (packet p)).place)
+    ∙ ap (λ (n : ℕ). Some (Drop n (found (packet p)).answer (length p) (found (packet p)).place))
     {x = (past.place + length q) % 2 ^ 64 + length (joined ps)} {y = past.place + length (q ++ joined ps)} (omega arith)
 
 pub proved-adds-up : AddsUp

@@ -3,6 +3,7 @@
 use Prim.Native.Nat.{ℕ, ◌+◌, ◌-◌, ◌<◌}
 use mathlib.Core.Path.{◌≡◌, refl, sym, ◌∙◌}
 use mathlib.Core.List.{List, [], ◌∷◌}
+use Rattle.std.proofs.Common.{Some}
 use native.Mathlib.Omega.{arith}
 use native.Mathlib.Nat.{add-zero}
 use lib.Dec.{leb, leb-zero}
@@ -15,13 +16,13 @@ use Rattle.ground.proofs.StoreLaws.{written_none}
 use Rattle.ump.specs.Packet.{size}
 use Rattle.ump.proofs.PacketLaws.{packet-near}
 use Rattle.stream.specs.declared.Done.{Done}
-use Rattle.stream.specs.Answers.{cut_packet, no_room, sent}
+use Rattle.stream.specs.Answers.{cut_packet, sent}
 use Rattle.stream.specs.Call.{Call, fit, sent_of, went}
 use Rattle.stream.specs.Report.{counting, further}
 use Rattle.stream.proofs.RunLoop.{Inside, packet-inside}
-use Rattle.text.specs.Lines.{place_after, with_row}
+use Rattle.text.specs.Lines.{with_row}
 use Rattle.recording.specs.declared.Past.{Past}
-use Rattle.recording.specs.Recording.{kept_of, line_of, past_after, text_of}
+use Rattle.recording.specs.Recording.{kept_of, line_of, past_after, place_if_put, text_of}
 use Rattle.rescuing.specs.declared.Told.{Told}
 use Rattle.rescuing.specs.Rescue.{keep, rowed, tell, turn_of}
 
@@ -64,26 +65,15 @@ module _ (t : Told) (p row text : List ℕ) (u : Past) where
   abbrev Tells : Call (ℕ × Past) → Told → List ℕ → Type 0
   Tells c r after = (r ≡ turn_of t p room c) × (after ≡ written t.done.written (sent_of c) text)
 
-  -- a row that is said was put where the place after it is another one
-  pub told-goes : (end : ℕ) (after : List ℕ) → 0 < length row → (end ≡ t.done.written → ⊥)
-      → (end ≡ place_after text t.done.written row) × (after ≡ with_row text t.done.written row)
-      → Tells (fit room (went sent row u))
-      (record { past = u; done = counting sent (t.done.read + length p) end }) after
-  told-goes end after some n q =
+  -- a row that has bytes was put where there is a place after it
+  pub told-put : (end : ℕ) (after : List ℕ) → 0 < length row → Some end ≡ place_if_put text t.done.written row
+      → after ≡ with_row text t.done.written row
+      → after ≡ written t.done.written (sent_of (fit room (went sent row u))) text
+  told-put end after some q w =
       by_bool (leb (length row) room)
-      (λ e. let z = rw e at q in
-      let h = leb-true (length row) room e in
-      rw (e, z.0) (refl, z.1 ∙ sets-eq row text t.done.written (omega (arith, some, h))))
-      (λ e. absurd (n (rw e at q).0))
-
-  pub told-stops : (end : ℕ) (after : List ℕ) → 0 < length row → end ≡ t.done.written
-      → (end ≡ place_after text t.done.written row) × (after ≡ with_row text t.done.written row)
-      → Tells (fit room (went sent row u))
-      (record { past = t.past; done = counting no_room t.done.read t.done.written }) after
-  told-stops end after h e q =
-      by_bool (leb (length row) room) (λ b. absurd (omega (arith, e, (rw b at q).0)))
-      (λ b. let z = rw b at q in
-      rw (b, z.1) (rw (add-zero t.done.read, add-zero t.done.written), sym (written_none t.done.written text)))
+      (λ e. let h = leb-true (length row) room e in
+      rw e (rw e at w ∙ sets-eq row text t.done.written (omega (arith, some, h))))
+      (λ e. let z = rw e at q in cc)
 
   -- nothing is said
   pub told_none : row ≡ []

@@ -1,5 +1,5 @@
 // The packets that are kept, unchanged and in order.
-ghost use Rattle.std.specs.Prelude.{◌≡◌, ◌+◌, ◌-◌, ◌<◌, ◌≤◌, ◌^◌, drop, length};
+ghost use Rattle.std.specs.Prelude.{◌≡◌, ◌+◌, ◌-◌, ◌<◌, ◌^◌, drop, length};
 ghost use Rattle.ground.specs.Store.{at_start, written};
 ghost use Rattle.ump.specs.Packet.{packet};
 ghost use Rattle.stream.specs.Call.{sent_of, within};
@@ -11,25 +11,6 @@ use reader::packet_from;
 use recording::is_kept;
 use stream::{CUT, Done, NO_ROOM, SENT, report};
 
-// Stores a row of words from a place on.
-fn put_row(row: &[u32], out: &mut [u32], to: usize)
-    requires { to + length row.now ≤ length out.old }
-    ensures { out.new ≡ written to row.now out.old }
-{
-    let mut i: usize = 0;
-    while i < row.len() {
-        out[to + i] = row[i];
-        i += 1;
-    }
-}
-
-// The free words of an output of so many, from a place on.
-fn free(len: usize, to: usize) -> usize
-    ensures { result ≡ len - to }
-{
-    if len <= to { 0 } else { len - to }
-}
-
 // Hands a packet on, if there is room for it.
 fn keep(row: &[u32], past: Done, out: &mut [u32]) -> Done
     requires { (past.read + length row.now < 2 ^ 64) × (0 < length row.now) }
@@ -39,14 +20,13 @@ fn keep(row: &[u32], past: Done, out: &mut [u32]) -> Done
         (sent_of (handed (length out.old - past.written) row.now))
         out.old }
 {
-    let n = row.len();
-    let read = past.read;
     let to = past.written;
-    if free(out.len(), to) < n {
-        return report(NO_ROOM, read, to);
+    if out.len().saturating_sub(to) < row.len() {
+        return report(NO_ROOM, past.read, to);
     }
-    put_row(row, out, to);
-    report(SENT, read + n, to + n)
+    let end = to + row.len();
+    out[to..end].copy_from_slice(row);
+    report(SENT, past.read + row.len(), end)
 }
 
 // The packet that is next in the words, after what was read and written so far.

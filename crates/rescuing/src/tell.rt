@@ -21,11 +21,9 @@ fn stays(told: Told, answer: u32) -> Told
       done = counting answer told.done.read told.done.written;
     } }
 {
-    let past = told.past;
-    let done = told.done;
     Told {
-        past,
-        done: report(answer, done.read, done.written),
+        done: report(answer, told.done.read, told.done.written),
+        ..told
     }
 }
 
@@ -37,11 +35,9 @@ fn goes_on(told: Told, packet: &[u32], end: usize) -> Told
       done = counting sent (told.done.read + length packet.now) end;
     } }
 {
-    let past = told.past;
-    let done = told.done;
     Told {
-        past: past.after(packet),
-        done: report(SENT, done.read + packet.len(), end),
+        past: told.past.after(packet),
+        done: report(SENT, told.done.read + packet.len(), end),
     }
 }
 
@@ -57,18 +53,14 @@ fn tell_packet(packet: &[u32], told: Told, text: &mut [u8]) -> Told
         (went sent (text_of (line_of told.past packet.now))
         (past_after told.past packet.now)))) text.old }
 {
-    let past = told.past;
-    let done = told.done;
-    let to = done.written;
-    let line = past.line(packet);
-    if line.is_said() {
-        let end = line.put(text, to);
-        if end == to {
-            return stays(told, NO_ROOM);
-        }
-        return goes_on(told, packet, end);
+    let to = told.done.written;
+    match told.past.line(packet) {
+        None => goes_on(told, packet, to),
+        Some(line) => match line.put(text, to) {
+            Some(end) => goes_on(told, packet, end),
+            None => stays(told, NO_ROOM),
+        },
     }
-    goes_on(told, packet, to)
 }
 
 // The packet that is next in the words, after what was told so far.
@@ -81,8 +73,7 @@ fn tell_next(words: &[u32], told: Told, text: &mut [u8]) -> Told
         (sent_of (within tell (length text.old - told.done.written, told.past)
         (drop told.done.read words.now))) text.old }
 {
-    let done = told.done;
-    let packet = packet_from(words, done.read);
+    let packet = packet_from(words, told.done.read);
     if packet.len() == 0 {
         return stays(told, CUT);
     }
@@ -105,9 +96,8 @@ pub fn tell_some(past: Past, words: &[u32], text: &mut [u8]) -> Told
             done: report(SENT, read, written),
         };
         let told = tell_next(words, before, text);
-        let after = told.past;
         let done = told.done;
-        past = after;
+        past = told.past;
         if done.read == read {
             let done = report(done.answer, read, done.written);
             return Told { past, done };
@@ -119,6 +109,18 @@ pub fn tell_some(past: Past, words: &[u32], text: &mut [u8]) -> Told
     Told { past, done }
 }
 
+// Writes what is said from a place on and answers the place after it, or that place where nothing is said or it
+// does not fit.
+fn put_said(said: Option<Line>, text: &mut [u8], to: usize) -> usize
+    ensures place { result ≡ place_after text.old to (text_of said) }
+    ensures text { text.new ≡ with_row text.old to (text_of said) }
+{
+    match said {
+        Some(line) => line.put(text, to).unwrap_or(to),
+        None => to,
+    }
+}
+
 // What is said of so many bytes that are left at the end, and how many bytes that is: words of a cut
 // packet, and bytes of a cut word.
 pub fn tell_end(place: u64, left: usize, text: &mut [u8]) -> usize
@@ -127,8 +129,6 @@ pub fn tell_end(place: u64, left: usize, text: &mut [u8]) -> usize
     ensures text { text.new ≡ with_row (with_row text.old 0 (text_of (cut_line place left)))
         (place_after text.old 0 (text_of (cut_line place left))) (text_of (left_line left)) }
 {
-    let cut = Line::cut(place, left);
-    let to = cut.put(text, 0);
-    let rest = Line::left(left);
-    rest.put(text, to)
+    let to = put_said(Line::cut(place, left), text, 0);
+    put_said(Line::left(left), text, to)
 }

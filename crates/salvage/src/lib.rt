@@ -17,7 +17,7 @@ pub use ports::Streams;
 use recording::{HEADER_BYTES, Line, Past};
 use rescuing::{keep_some, tell_some};
 use std::io::{Read, Write};
-use stream::{NO_ROOM, SENT};
+use stream::NO_ROOM;
 
 // The bytes of input that are held at once, and the words in them; no more are kept of them.
 const INPUT_BYTES: usize = 0x8000;
@@ -121,7 +121,7 @@ fn read_header<R: Read, E: Write>(
 fn say_answer<L: Write, E: Write>(lines: &mut L, errors: &mut E, name: &[u8], answer: u32) {
     let mut text = [0u8; SHORT_BYTES];
     let line = Line::Answer(answer);
-    let n = line.put(&mut text, 0);
+    let n = line.put(&mut text, 0).unwrap_or(0);
     ports::write_fails(lines, errors, name, &text, n);
 }
 
@@ -136,18 +136,20 @@ fn begin<R: Read, L: Write, E: Write>(
 ) -> Progress {
     let got = read_header(from, errors, names.old, bytes);
     let have = got.have;
-    let answer = recording::header_answer(&bytes[..have]);
+    let header = recording::header_answer(&bytes[..have]);
     let left = wire::carry(bytes, HEADER_BYTES, have);
     let unread = got.failed;
-    if !unread & (answer != SENT) {
-        say_answer(lines, errors, names.lines, answer);
+    if let Err(error) = header
+        && !unread
+    {
+        say_answer(lines, errors, names.lines, error.answer());
     }
     Progress {
         past: Past::start(),
         left,
         waits: false,
         ended: false,
-        failed: unread | (answer != SENT),
+        failed: unread | header.is_err(),
     }
 }
 

@@ -1,43 +1,23 @@
--- `recording::Line::put`: each sort of line is put by its own function, and nothing for none.
-use Rattle.text.proofs.LineLaws.{none-put}
+-- `recording::Line::put`: each line has bytes, so it was put where the place after it is another one.
+use Rattle.std.proofs.Common.{Some}
 use Rattle.recording.specs.Recording.{text_of}
+use Rattle.recording.proofs.LineLaws.{none-put, said-some, some-put}
 use Rattle.recording.proofs.Line.put.Goals as goal
 
-pub returns-in-Nothing : goal.returns-in-Nothing
-unfolding text_of
-returns-in-Nothing c =
+pub returns-then-end-to : goal.returns-then-end-to
+returns-then-end-to c =
     let a = c.args in
-    let r = none-put a.text.now a.to in
-    rw c.in-Nothing.is record { place = r.0; text = r.1 }
-
-pub returns-in-Drop : goal.returns-in-Drop
-unfolding text_of
-returns-in-Drop c =
-    rw c.in-Drop.is record {
-      place = c.drop_line.ensures.place;
-      text = c.drop_line.ensures.text;
+    let p = c.put_or_stay-end.ensures in
+    record {
+      place = none-put a.text.now (text_of (Some a.self)) a.to _ (said-some a.self) p.place c.if-end-to.true;
+      text = p.text;
     }
 
-pub returns-in-Ticks : goal.returns-in-Ticks
-unfolding text_of
-returns-in-Ticks c =
-    rw c.in-Ticks.is record {
-      place = c.ticks_line.ensures.place;
-      text = c.ticks_line.ensures.text;
-    }
-
-pub returns-in-Bytes : goal.returns-in-Bytes
-unfolding text_of
-returns-in-Bytes c =
-    rw c.in-Bytes.is record {
-      place = c.bytes_line.ensures.place;
-      text = c.bytes_line.ensures.text;
-    }
-
-pub returns-in-Answer : goal.returns-in-Answer
-unfolding text_of
-returns-in-Answer c =
-    rw c.in-Answer.is record {
-      place = c.number_line.ensures.place;
-      text = c.number_line.ensures.text;
+pub returns-else-end-to : goal.returns-else-end-to
+returns-else-end-to c =
+    let a = c.args in
+    let p = c.put_or_stay-end.ensures in
+    record {
+      place = some-put a.text.now (text_of (Some a.self)) a.to _ (said-some a.self) p.place c.if-end-to.false;
+      text = p.text;
     }
