@@ -1,13 +1,18 @@
 -- Words as bytes: how many there are, and which stands at a place. Assumes nothing.
 use Prim.Native.Nat.{ℕ, zero, suc, ◌+◌, ◌*◌, ◌/◌, ◌-◌, ◌≤◌, ◌<◌, min}
-use mathlib.Core.Path.{◌≡◌, refl, ap, ◌∙◌}
-use mathlib.Core.List.{List, [], ◌∷◌, ◌++◌}
+use mathlib.Core.Path.{◌≡◌, refl, sym, ap, ◌∙◌}
+use mathlib.Core.List.{List, [], ◌∷◌, ◌++◌, append_assoc}
 use native.Mathlib.Omega.{arith}
 use native.Mathlib.Numerals.{add-one}
-use lib.ListN.{length, get_or, take, set, length-drop, length-take}
-use lib.Seq.{get_or-drop, get_or-take, length-take-le, sets, slice, take-suc}
+use lib.ListN.{length, get_or, take, drop, set, length-drop, length-take}
+use lib.Seq.{length-take-le, sets, slice, take-suc}
 use Rattle.wire.specs.Words.{bytes_of, four_bytes, word_from, words_of}
-use Rattle.ground.proofs.Stores.{get_d_sets, sets-append, sets_more}
+use borrow.Rule.Slice.PartMut.{put_mid}
+use Rattle.std.specs.List.{copy_within}
+use Rattle.std.proofs.lemmas.List.{drop-take}
+use Rattle.std.proofs.lemmas.List.Edits.{paste_all, sets-eq}
+use Rattle.std.proofs.lemmas.Slice.{put_mid-paste}
+use Rattle.ground.proofs.Stores.{sets-append, sets_more, take-least}
 
 pub words-length : (s : List ℕ) → length (words_of s) ≡ length s / 4
 unfolding words_of
@@ -60,16 +65,20 @@ bytes-more l ws i h =
     let n : 0 + length b ≡ 4 * i = omega (arith, bytes-length (take i ws), length-take-le i ws (omega arith)) in
     rw (add-one i, take-suc ws i 0 h, bytes-append (take i ws) (w ∷ []), sets-append l 0 b (four_bytes w), n)
 
-pub slice-length : (from end : ℕ) (l : List ℕ) → length (slice from end l) ≡ min end (length l) - from
-slice-length from end l = length-drop from (take end l) ∙ ap (λ (k : ℕ). k - from) (length-take end l)
+-- a part that is stored over by a row of its length
+pub part_stored : (at n : ℕ) (l xs : List ℕ) → n ≡ length xs → at + n ≤ length l → put_mid at n l xs ≡ sets l at xs
+part_stored at n l xs e h =
+    put_mid-paste at n l xs xs n refl refl e ∙ paste_all l at xs n e
+    ∙ rw (e, sets-eq xs l at (omega arith), append_assoc (take at l) xs (drop (at + length xs) l))
 
--- the loop that moves bytes to the front: it has not stored over the next
-pub moved_more : (l : List ℕ) (from end i : ℕ) → from + i < end → from + i < length l
-    → set (sets l 0 (take i (slice from end l))) i (get_or (sets l 0 (take i (slice from end l))) (from + i) 0)
-    ≡ sets l 0 (take (i + 1) (slice from end l))
-moved_more l from end i p q =
+-- bytes moved to the front
+pub moved : (l : List ℕ) (from end last : ℕ) → last ≡ min end (length l) → from ≤ last
+    → copy_within l from last 0 ≡ sets l 0 (slice from end l)
+moved l from end last e h =
+    let n = last - from in
     let s = slice from end l in
-    let n = slice-length from end l in
-    let e : get_or s i 0 ≡ get_or l (from + i) 0 = get_or-drop from (take end l) i 0 ∙ get_or-take end l (from + i) 0 p in
-    let k : 0 + length (take i s) ≤ from + i = omega (arith, length-take-le i s (omega arith)) in
-    rw (get_d_sets l 0 (take i s) (from + i) 0 k, ← e) (sets_more l s i 0 (omega arith))
+    let t : take n (drop from l) ≡ s =
+    sym (drop-take from n l) ∙ ap (λ (k : ℕ). drop from (take k l)) {x = from + n} {y = last} (omega arith)
+    ∙ ap (λ (k : List ℕ). drop from k) (take-least end last l e) in
+    let m : length s ≡ n = length-drop from (take end l) ∙ omega (arith, length-take end l) in
+    rw (t, ← m) (sym (sets-eq s l 0 (omega arith)))

@@ -9,29 +9,12 @@ ghost use Rattle.std.proofs.lemmas.List.Edits.{sets};
 ghost use Rattle.std.proofs.Math.Seq.{slice};
 ghost use Rattle.wire.specs.Words.{bytes_into, four_bytes, word_from, words_into};
 
-fn wide(b: u8) -> u32
-    ensures same { result ≡ b }
-    ensures byte { result < 2 ^ 8 }
-{
-    b as u32
-}
-
-fn least(a: usize, b: usize) -> usize
-    ensures { result ≡ min a b }
-{
-    if a < b { a } else { b }
-}
-
 // The word of the four bytes from a place on.
 fn word_from(bytes: &[u8], at: usize) -> u32
     requires { at + 4 ≤ length bytes.now }
     ensures { result ≡ word_from bytes.now at }
 {
-    let a = wide(bytes[at]);
-    let b = wide(bytes[at + 1]);
-    let c = wide(bytes[at + 2]);
-    let d = wide(bytes[at + 3]);
-    a * 0x1000000 + b * 0x10000 + c * 0x100 + d
+    u32::from_be_bytes([bytes[at], bytes[at + 1], bytes[at + 2], bytes[at + 3]])
 }
 
 // Stores a word as four bytes.
@@ -39,10 +22,7 @@ fn put_word(bytes: &mut [u8], at: usize, w: u32)
     requires { at + 4 ≤ length bytes.old }
     ensures { bytes.new ≡ sets bytes.old at (four_bytes w) }
 {
-    bytes[at] = ((w >> 24) % 0x100) as u8;
-    bytes[at + 1] = ((w >> 16) % 0x100) as u8;
-    bytes[at + 2] = ((w >> 8) % 0x100) as u8;
-    bytes[at + 3] = (w % 0x100) as u8;
+    bytes[at..at + 4].copy_from_slice(&w.to_be_bytes());
 }
 
 // Fills the words with the whole words of the bytes, as many as there is room for, and answers how
@@ -52,11 +32,9 @@ pub fn words_of(bytes: &[u8], words: &mut [u32]) -> usize
     ensures stored { words.new
         ≡ sets words.old 0 (words_into words.old bytes.now) }
 {
-    let n = least(words.len(), bytes.len() / 4);
-    let mut i = 0;
-    while i < n {
+    let n = words.len().min(bytes.len() / 4);
+    for i in 0..n {
         words[i] = word_from(bytes, 4 * i);
-        i += 1;
     }
     n
 }
@@ -68,11 +46,9 @@ pub fn bytes_of(words: &[u32], bytes: &mut [u8]) -> usize
     ensures stored { bytes.new
         ≡ sets bytes.old 0 (bytes_into bytes.old words.now) }
 {
-    let n = least(bytes.len() / 4, words.len());
-    let mut i = 0;
-    while i < n {
+    let n = words.len().min(bytes.len() / 4);
+    for i in 0..n {
         put_word(bytes, 4 * i, words[i]);
-        i += 1;
     }
     4 * n
 }
@@ -82,15 +58,10 @@ pub fn carry(bytes: &mut [u8], from: usize, end: usize) -> usize
     ensures count { result ≡ length (slice from end bytes.old) }
     ensures moved { bytes.new ≡ sets bytes.old 0 (slice from end bytes.old) }
 {
-    let last = least(end, bytes.len());
+    let last = end.min(bytes.len());
     if last <= from {
         return 0;
     }
-    let n = last - from;
-    let mut i = 0;
-    while i < n {
-        bytes[i] = bytes[from + i];
-        i += 1;
-    }
-    n
+    bytes.copy_within(from..last, 0);
+    last - from
 }

@@ -1,13 +1,10 @@
--- One more byte moved; the lemma says that it was not stored over yet.
-use Rattle.std.proofs.Common.{rules, arith}
-use Rattle.wire.proofs.WordLaws.{moved_more}
+-- `wire::carry` meets its contract: the bytes passed on stand at the front, as the library moves them, overlapping or
+-- not, and what stands behind them is as it was.
+use Rattle.std.proofs.Common.{arith, ◌∙◌}
+use Rattle.wire.proofs.WordLaws.{moved}
 use Rattle.wire.proofs.carry.Goals as goal
 
-pub loop-i-preserved : goal.loop-i-preserved
-loop-i-preserved c =
+pub returns-clause-moved : goal.returns-clause-moved
+returns-clause-moved c =
     let a = c.args in
-    let l = c.loop-i in (
-      omega arith,
-      search rules,
-      rw l.invariant.2 (moved_more a.bytes.now a.from a.end l.i (omega arith) (omega arith)),
-    )
+    c.copy_within.ensures.after ∙ moved a.bytes.now a.from a.end c.min-last.result (omega arith) (omega arith)
