@@ -6,13 +6,14 @@ use mathlib.Core.List.{List, [], ◌∷◌, ◌++◌, append_assoc, append-nil}
 use native.Mathlib.Omega.{arith}
 use native.Mathlib.Nat.{div-div-eq-div-mul, div-one, mul-suc, mul-zero, pow-suc, pow-zero}
 use native.Mathlib.Numerals.{add-one}
-use lib.Dec.{eqb, leb, ltb}
+use lib.Dec.{ltb}
 use lib.ListN.{length, length-append, get_or, set, take}
 use lib.Seq.{length-take-le, sets, take-suc}
-use borrow.Author.Tests.{eqb-false, le-leb, le-ltb, lt-ltb, ltb-false, ne_eqb}
-use Rattle.text.specs.Lines.{decimal, digits, fields_of, glyph, hex_fields, line_of, number_then, place_after, place_field}
+use borrow.Author.Tests.{le-leb, le-ltb, lt-ltb, ltb-false, ne_eqb}
+use Rattle.text.specs.Lines.{call_of, decimal, digits, fields_of, glyph, hex_fields, line_of, number_then, place_after, place_field}
 use Rattle.text.specs.Lines.{places, places_in, with_row}
-use Rattle.ground.proofs.Cases.{by_bool}
+use Rattle.std.proofs.Common.{map}
+use Rattle.std.proofs.lemmas.List.{map-id}
 use Rattle.ground.proofs.Stores.{set-sets, sets-append}
 
 pub digits-length : (b k n : ℕ) → length (digits b k n) ≡ k
@@ -24,11 +25,6 @@ digits-length b (suc k) n = ap suc (digits-length b k n)
 pub number-length : (end n : ℕ) → length (number_then end n) ≡ places n + 1
 unfolding number_then
 number-length end n = omega (arith, length-append (decimal n) (end ∷ []), digits-length 10 (places n) n)
-
-pub number-stored : (l : List ℕ) (to end n k : ℕ) → k ≡ places n
-    → set (sets l to (digits 10 k n)) (to + k) end ≡ sets l to (number_then end n)
-unfolding number_then
-number-stored l to end n k e = rw (e, sets-append l to (decimal n) (end ∷ []), digits-length 10 (places n) n)
 
 -- an empty row changes nothing
 pub none-put : (l : List ℕ) (to : ℕ) → (to ≡ place_after l to []) × (l ≡ with_row l to [])
@@ -129,17 +125,30 @@ fields-more k l ws to i h =
     rw (add-one i, add-one (to + suc k * i), take-suc ws i 0 h, fields-append k (take i ws) (get_or ws i 0 ∷ []), append-nil w)
     (rw (sets-append l to f w, n))
 
-pub place-length : (place : ℕ) → (place ≡ 0 → ⊥) → length (place_field place) ≡ 1 + places place
-unfolding place_field
-place-length place n = rw (ne_eqb place 0 n) (omega (arith, digits-length 10 (places place) place))
+-- the same where the code counts
+pub field_more : (k : ℕ) (l ws : List ℕ) (to i at w : ℕ) → i < length ws → at ≡ to + (k + 1) * i → w ≡ get_or ws i 0
+    → sets (set (sets l to (fields_of k (take i ws))) at 32) (at + 1) (digits 16 k w) ≡ sets l to (fields_of k (take (i + 1) ws))
+field_more k l ws to i at w h e f = rw (e, f, add-one k) (fields-more k l ws to i h)
 
--- by the number of its bytes: a space and the digits
-pub place-some : (place bytes : ℕ) → bytes ≡ length (place_field place) → (bytes ≡ 0 → ⊥)
-    → place_field place ≡ 32 ∷ digits 10 (bytes - 1) place
-unfolding place_field
-place-some place bytes e n =
-    by_bool (eqb place 0) (λ z. absurd (n (rw z at e)))
-    (λ z. let k : bytes - 1 ≡ places place = omega (arith, e, place-length place (eqb-false place 0 z)) in rw (z, k))
+pub room_more : (k i n : ℕ) → i < n → (k + 1) * i + (k + 1) ≤ (k + 1) * n
+room_more k i n h = grind arith
+
+-- the numbers of a call behind what stands there
+pub call_with_place : (l : List ℕ) (answer read place : ℕ) → (place ≡ 0 → ⊥)
+    → l ++ number_then 32 answer ++ decimal read ++ (32 ∷ []) ++ decimal place ≡ l ++ call_of answer read place
+unfolding number_then place_field
+call_with_place l answer read place n = rw (ne_eqb place 0 n) (simp append_assoc)
+
+pub call_without : (l : List ℕ) (answer read place : ℕ) → place ≡ 0
+    → l ++ number_then 32 answer ++ decimal read ≡ l ++ call_of answer read place
+unfolding number_then place_field
+call_without l answer read place e = rw e (simp (append_assoc, append-nil))
+
+-- the whole line
+pub call_line : (head : List ℕ) (answer read place : ℕ) (ws : List ℕ) → head ≡ call_of answer read place
+    → head ++ fields_of 8 (map (λ n. n) ws) ++ (10 ∷ []) ≡ line_of answer read place ws
+unfolding line_of
+call_line head answer read place ws e = rw (e, map-id ws)
 
 pub line-length : (answer read place : ℕ) (ws : List ℕ)
     → length (line_of answer read place ws) ≡ places answer + places read + length (place_field place) + 2 + 9 * length ws
@@ -151,42 +160,3 @@ line-length answer read place ws =
     let o = length-append (decimal answer ++ (32 ∷ decimal read)) k in
     let r = length-append (decimal answer) (32 ∷ decimal read) in
     omega (arith, fields-length 8 ws, digits-length 10 (places answer) answer, digits-length 10 (places read) read)
-
-pub line-fits : (answer read place a b c : ℕ) (ws : List ℕ) (room : ℕ) (t : Bool) → a ≡ places answer → b ≡ places read
-    → c ≡ length (place_field place)
-    → t ≡ leb (a + b + c + 2 + 9 * length ws) room → leb (length (line_of answer read place ws)) room ≡ t
-line-fits answer read place a b c ws room t ea eb ec e = rw (line-length answer read place ws, ← ea, ← eb, ← ec) (sym e)
-
--- the whole line, part by part
-pub line-stored : (l : List ℕ) (to answer read place a b c : ℕ) (ws : List ℕ) → a ≡ places answer → b ≡ places read
-    → c ≡ length (place_field place)
-    → set (sets (sets (sets (set (sets l to (digits 10 a answer)) (to + a) 32) (to + a + 1) (digits 10 b read))
-    (to + a + 1 + b) (place_field place)) (to + a + 1 + b + c) (hex_fields ws)) (to + a + 1 + b + c + 9 * length ws) 10
-    ≡ sets l to (line_of answer read place ws)
-unfolding line_of
-line-stored l to answer read place a b c ws ea eb ec =
-    let d = decimal answer in
-    let e = decimal read in
-    let k = place_field place in
-    let f = hex_fields ws in
-    let m = digits-length 10 (places answer) answer in
-    let n = digits-length 10 (places read) read in
-    let p = length-append d (32 ∷ e) in
-    let q = length-append (d ++ (32 ∷ e)) k in
-    let one : to + length d ≡ to + places answer = omega arith in
-    let two : to + length (d ++ (32 ∷ e)) ≡ to + places answer + 1 + places read = omega arith in
-    let three : to + length (d ++ (32 ∷ e) ++ k) ≡ to + places answer + 1 + places read + length k = omega arith in
-    let four : to + length (d ++ (32 ∷ e) ++ k ++ f) ≡ to + places answer + 1 + places read + length k + 9 * length ws =
-    omega (arith, length-append (d ++ (32 ∷ e) ++ k) f, fields-length 8 ws) in
-    rw (
-      ea,
-      eb,
-      ec,
-      sets-append l to (d ++ (32 ∷ e) ++ k ++ f) (10 ∷ []),
-      four,
-      sets-append l to (d ++ (32 ∷ e) ++ k) f,
-      three,
-      sets-append l to (d ++ (32 ∷ e)) k,
-      two,
-    )
-    (rw (sets-append l to d (32 ∷ e), one, add-one (to + places answer)))

@@ -1,16 +1,14 @@
 -- The lines of whole messages: how many bytes their parts have, and that they are stored one after the other. Assumes
 -- nothing.
-use Prim.Native.Nat.{ℕ, ◌+◌, ◌*◌, ◌-◌, ◌%◌, ◌<◌, ◌≤◌}
-use mathlib.Core.Path.{◌≡◌, refl, sym, ap, ◌∙◌}
-use mathlib.Core.Bool.{Bool, true, false}
-use mathlib.Core.List.{List, [], ◌∷◌, ◌++◌}
+use Prim.Native.Nat.{ℕ, ◌+◌, ◌*◌, ◌%◌, ◌<◌, ◌≤◌}
+use mathlib.Core.Path.{◌≡◌}
+use mathlib.Core.List.{List, [], ◌∷◌, ◌++◌, append_assoc}
 use native.Mathlib.Omega.{arith}
-use lib.Dec.{leb}
-use lib.ListN.{length, length-append, set}
-use lib.Seq.{sets}
+use lib.ListN.{length, length-append}
 use borrow.Author.Tests.{le-ltb, lt-ltb}
-use Rattle.ground.proofs.Stores.{sets-append}
-use Rattle.text.specs.Lines.{decimal, digits, fields_of, place_after, places, with_row}
+use Rattle.std.proofs.Common.{map}
+use Rattle.std.proofs.lemmas.List.{map-id}
+use Rattle.text.specs.Lines.{decimal, fields_of, places}
 use Rattle.text.specs.Messages.{dropped_line, exclusive_name, flex_name, head_of, message_line, sort_name}
 use Rattle.text.proofs.LineLaws.{digits-length, fields-length, few}
 
@@ -22,6 +20,22 @@ name-exclusive chain h = rw (lt-ltb chain 16 h)
 pub name-flex : (chain : ℕ) → 16 ≤ chain → sort_name chain ≡ flex_name
 unfolding sort_name
 name-flex chain h = rw (le-ltb chain 16 h)
+
+-- the head behind what stands there
+pub exclusive_head : (l : List ℕ) (chain : ℕ) → chain < 16
+    → l ++ exclusive_name ++ decimal (chain % 16) ≡ l ++ head_of chain
+unfolding head_of
+exclusive_head l chain h = rw (name-exclusive chain h) (append_assoc l exclusive_name (decimal (chain % 16)))
+
+pub flex_head : (l : List ℕ) (chain : ℕ) → 16 ≤ chain → l ++ flex_name ++ decimal (chain % 16) ≡ l ++ head_of chain
+unfolding head_of
+flex_head l chain h = rw (name-flex chain h) (append_assoc l flex_name (decimal (chain % 16)))
+
+-- the whole line
+pub bytes_line : (head : List ℕ) (chain : ℕ) (bytes : List ℕ) → head ≡ head_of chain
+    → head ++ fields_of 2 (map (λ n. n) bytes) ++ (10 ∷ []) ≡ message_line chain bytes
+unfolding message_line
+bytes_line head chain bytes e = rw (e, map-id bytes)
 
 pub head-length : (chain : ℕ) → length (head_of chain) ≡ length (sort_name chain) + places (chain % 16)
 unfolding head_of
@@ -54,61 +68,6 @@ dropped-length answer chain =
       length-append (decimal answer ++ (32 ∷ []) ++ head_of chain) (10 ∷ []),
       digits-length 10 (places answer) answer,
     )
-
--- the head, part by part
-pub head-stored : (l : List ℕ) (to chain name count : ℕ) → name ≡ length (sort_name chain) → count ≡ places (chain % 16)
-    → sets (sets l to (sort_name chain)) (to + name) (digits 10 count (chain % 16)) ≡ sets l to (head_of chain)
-unfolding head_of
-head-stored l to chain name count e f = rw (e, f) (sym (sets-append l to (sort_name chain) (decimal (chain % 16))))
-
--- and the lines
-pub message-stored : (l l₁ l₂ : List ℕ) (to chain p₁ p₂ : ℕ) (bytes : List ℕ)
-    → (p₁ ≡ to + length (head_of chain)) × (l₁ ≡ sets l to (head_of chain))
-    → (p₂ ≡ p₁ + 3 * length bytes) × (l₂ ≡ sets l₁ p₁ (fields_of 2 bytes))
-    → set l₂ p₂ 10 ≡ sets l to (message_line chain bytes)
-unfolding message_line
-message-stored l l₁ l₂ to chain p₁ p₂ bytes a b =
-    let h = head_of chain in
-    let f = fields_of 2 bytes in
-    let n : to + length h + 3 * length bytes ≡ to + length (h ++ f) =
-    omega (arith, length-append h f, fields-length 2 bytes) in
-    rw (b.1, b.0, a.1, a.0) (rw (n, sets-append l to (h ++ f) (10 ∷ []), sets-append l to h f))
-
-pub dropped-stored : (l l₃ : List ℕ) (to answer chain count p₃ : ℕ) → count ≡ places answer
-    → (p₃ ≡ to + count + 1 + length (head_of chain))
-    × (l₃ ≡ sets (set (sets l to (digits 10 count answer)) (to + count) 32) (to + count + 1) (head_of chain))
-    → set l₃ p₃ 10 ≡ sets l to (dropped_line answer chain)
-unfolding dropped_line
-dropped-stored l l₃ to answer chain count p₃ e a =
-    let d = decimal answer in
-    let h = head_of chain in
-    let s : List ℕ = 32 ∷ [] in
-    let m = digits-length 10 (places answer) answer in
-    let one : to + length d ≡ to + places answer = omega arith in
-    let two : to + length (d ++ s) ≡ to + places answer + 1 = omega (arith, length-append d s) in
-    let three : to + length (d ++ s ++ h) ≡ to + places answer + 1 + length h =
-    omega (arith, length-append d s, length-append (d ++ s) h) in
-    rw (a.1, a.0, e)
-    (rw (
-      sets-append l to (d ++ s ++ h) (10 ∷ []),
-      three,
-      sets-append l to (d ++ s) h,
-      two,
-      sets-append l to d s,
-      one,
-    ))
-
--- A row of so many bytes is put where the test says that there is room, and else it is not.
-module _ (l row : List ℕ) (to n : ℕ) (t : Bool) (e : n ≡ length row) (f : t ≡ leb n (length l - to)) where
-  fits : leb (length row) (length l - to) ≡ t
-  fits = sym (f ∙ ap (λ (k : ℕ). leb k (length l - to)) e)
-
-  pub is-put : (l₁ : List ℕ) (r : ℕ) → t ≡ true → (r ≡ to + length row) × (l₁ ≡ sets l to row)
-      → (r ≡ place_after l to row) × (l₁ ≡ with_row l to row)
-  is-put l₁ r y p = rw (fits ∙ y) p
-
-  pub not-put : t ≡ false → (to ≡ place_after l to row) × (l ≡ with_row l to row)
-  not-put y = rw (fits ∙ y) (refl, refl)
 
 -- A line is never longer than this: a chain's head is at most twelve bytes, and an answer has at most two digits.
 pub head-most : (chain : ℕ) → length (head_of chain) ≤ length (sort_name chain) + 2

@@ -1,24 +1,17 @@
 -- A row that is put into a buffer: whole, byte by byte, and where it fits. Assumes nothing.
-use Prim.Native.Nat.{ℕ, zero, suc, ◌+◌, ◌*◌, ◌-◌, ◌<◌, ◌≤◌}
-use mathlib.Core.Path.{◌≡◌, refl, sym, ◌∙◌}
-use mathlib.Core.Bool.{Bool, true, false}
-use mathlib.Core.List.{List, [], ◌∷◌}
+use Prim.Native.Nat.{ℕ, zero, suc, ◌+◌, ◌-◌, ◌<◌, ◌≤◌}
+use mathlib.Core.Path.{◌≡◌, refl, sym, ap, ◌∙◌}
+use mathlib.Core.List.{List, [], ◌∷◌, ◌++◌}
 use native.Mathlib.Omega.{arith}
-use native.Mathlib.Numerals.{add-one}
-use lib.Dec.{leb, ltb}
-use lib.ListN.{get_or, length, set, take}
-use lib.Seq.{length-take-le, sets, take-suc}
-use borrow.Author.Tests.{le-leb, leb-true}
+use lib.Dec.{ltb}
+use lib.ListN.{drop, length, length-append, set, take}
+use lib.Seq.{length-take-le, sets, take_all}
+use borrow.Author.Tests.{le-leb, lt-leb}
+use Rattle.std.proofs.lemmas.List.{take-append-le}
+use Rattle.std.proofs.lemmas.List.Edits.{sets-eq}
 use Rattle.ground.proofs.Cases.{choose}
 use Rattle.ground.proofs.Stores.{sets-append}
 use Rattle.text.specs.Lines.{place_after, places_in, with_row}
-
--- the loop that stores a row: one more byte
-pub row_more : (l xs : List ℕ) (to i : ℕ) → i < length xs
-    → set (sets l to (take i xs)) (to + i) (get_or xs i 0) ≡ sets l to (take (i + 1) xs)
-row_more l xs to i h =
-    let n : to + length (take i xs) ≡ to + i = omega (arith, length-take-le i xs (omega arith)) in
-    rw (add-one i, take-suc xs i 0 h, sets-append l to (take i xs) (get_or xs i 0 ∷ []), n)
 
 -- a number has a digit
 pub places-some : (f n : ℕ) → 0 < places_in f n
@@ -34,18 +27,31 @@ module _ (l : List ℕ) (to : ℕ) (row : List ℕ) where
   pub row_fits : to + length row ≤ length l → Put l to row (to + length row) (sets l to row)
   row_fits h = rw (le-leb (length row) (length l - to) (omega arith)) (refl, refl)
 
-  -- by the test that the code makes
-  module _ (t : Bool) (n : ℕ) (en : n ≡ length row) (et : t ≡ leb (n + 9 * 0) (length l - to)) where
-    same : leb (length row) (length l - to) ≡ t
-    same = rw (← en) (let z : n + 9 * 0 ≡ n = omega arith in rw z at (sym et))
+  -- by the test that the code makes of the row's length
+  module _ (n : ℕ) (e : n ≡ length row) where
+    pub put_there : n ≤ length l - to → (end : ℕ) (after : List ℕ) → end ≡ to + n → after ≡ sets l to row
+        → Put l to row end after
+    put_there h end after f g = rw (le-leb (length row) (length l - to) (omega arith)) (f ∙ rw e, g)
 
-    pub row_put : t ≡ true → (end : ℕ) (after : List ℕ) → end ≡ to + n → after ≡ sets l to row → Put l to row end after
-    row_put e end after f g = rw (same, e) (f ∙ rw en, g)
+    pub put_nowhere : length l - to < n → Put l to row to l
+    put_nowhere h = rw (lt-leb (length row) (length l - to) (omega arith)) (refl, refl)
 
-    pub row-left : t ≡ false → Put l to row to l
-    row-left e = rw (same, e) (refl, refl)
+-- a row behind what stands in the first places
+pub made_longer : (l xs s : List ℕ) (n : ℕ) → take n l ≡ s → n ≤ length l → length s + length xs ≤ length l
+    → take (n + length xs) (sets l n xs) ≡ s ++ xs
+made_longer l xs s n e h f =
+    let k : length s ≡ n = ap length (sym e) ∙ length-take-le n l h in
+    let m : length (s ++ xs) ≡ n + length xs = omega (arith, length-append s xs, k) in
+    rw (sets-eq xs l n (omega arith), e, take-append-le (n + length xs) (s ++ xs) (drop (n + length xs) l) (omega (arith, m)))
+    (take_all (n + length xs) (s ++ xs) (omega (arith, m)))
 
--- there is room for what the test found room for
-pub has_room : (l : List ℕ) (to n : ℕ) (t : Bool) → t ≡ leb (n + 9 * 0) (length l - to) → t ≡ true → 0 < n
-    → to + n ≤ length l
-has_room l to n t e f h = omega (arith, leb-true (n + 9 * 0) (length l - to) (sym e ∙ f))
+-- a head, fields and the end of the line, one after the other
+pub whole_length : (head fields : List ℕ) → length (head ++ fields ++ (10 ∷ [])) ≡ length head + length fields + 1
+whole_length head fields = omega (arith, length-append head fields, length-append (head ++ fields) (10 ∷ []))
+
+pub whole_stored : (l head fields : List ℕ) (to : ℕ)
+    → set (sets (sets l to head) (to + length head) fields) (to + length head + length fields) 10
+    ≡ sets l to (head ++ fields ++ (10 ∷ []))
+whole_stored l head fields to =
+    let e : to + length (head ++ fields) ≡ to + length head + length fields = omega (arith, length-append head fields) in
+    rw (sets-append l to (head ++ fields) (10 ∷ []), e, sets-append l to head fields)

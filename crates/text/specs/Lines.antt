@@ -43,6 +43,10 @@ hex_fields ws = fields_of 8 ws
 unfoldable pub place_field : ℕ → List ℕ
 place_field place = cond (eqb place 0) [] (32 ∷ decimal place)
 
+-- RULES 10.2: the numbers of a call
+abbrev pub call_of : ℕ → ℕ → ℕ → List ℕ
+call_of answer read place = decimal answer ++ (32 ∷ decimal read) ++ place_field place
+
 -- RULES 10.2: the whole line, with the end of the line (10)
 unfoldable pub line_of : ℕ → ℕ → ℕ → List ℕ → List ℕ
 line_of answer read place ws =

@@ -3,18 +3,14 @@ ghost use Rattle.std.specs.Prelude.{◌≡◌, ◌+◌, ◌≤◌, length};
 ghost use Rattle.std.proofs.lemmas.List.Edits.{sets};
 ghost use Rattle.text.specs.Lines.{decimal, place_after, with_row};
 
-use crate::{is_room, places, spell};
+use crate::{places, spell};
 
 // Stores a row of bytes.
 pub(crate) fn put_row(bytes: &[u8], out: &mut [u8], to: usize)
     requires { to + length bytes.now ≤ length out.old }
     ensures { out.new ≡ sets out.old to bytes.now }
 {
-    let mut i: usize = 0;
-    while i < bytes.len() {
-        out[to + i] = bytes[i];
-        i += 1;
-    }
+    out[to..to + bytes.len()].copy_from_slice(bytes);
 }
 
 // Writes a row of bytes from a place on and answers the place after it, or, where it does not fit,
@@ -26,7 +22,7 @@ pub fn row(bytes: &[u8], out: &mut [u8], to: usize) -> usize
     if bytes.len() == 0 {
         return to;
     }
-    if is_room(out.len(), to, bytes.len(), 0) {
+    if bytes.len() <= out.len().saturating_sub(to) {
         put_row(bytes, out, to);
         to + bytes.len()
     } else {
@@ -40,7 +36,7 @@ pub fn number(n: u64, out: &mut [u8], to: usize) -> usize
     ensures text { out.new ≡ with_row out.old to (decimal n) }
 {
     let digits = places(n);
-    if is_room(out.len(), to, digits, 0) {
+    if digits <= out.len().saturating_sub(to) {
         spell(n, 10, digits, out, to);
         to + digits
     } else {

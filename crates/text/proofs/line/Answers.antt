@@ -1,32 +1,16 @@
--- `text::line` meets its contract: there is room for the line where there is room for its parts. Assumes nothing.
-use Prim.Native.Nat.{◌-◌}
-use mathlib.Core.Path.{refl, sym, ◌∙◌}
-use lib.ListN.{length}
-use Rattle.text.proofs.LineLaws.{line-fits}
+-- `text::line`: the numbers of the call stand at the head, and the words sent behind them.
+use Rattle.std.proofs.Common.{◌≡◌, ◌∙◌}
+use Rattle.text.specs.Lines.{call_of}
+use Rattle.text.proofs.LineLaws.{call_line}
 use Rattle.text.proofs.line.Goals as goal
 
-pub returns-then-is_room : goal.returns-then-is_room
-returns-then-is_room c =
+pub returns : goal.returns
+returns c =
     let a = c.args in
-    let room = length a.out.now - a.to in
-    let p = c.places-a.ensures.count in
-    let q = c.places-b.ensures.count in
-    let o = c.place_bytes-c.ensures.count in
-    let e = sym c.if-is_room.true ∙ c.is_room.ensures in
-    rw (line-fits a.answer a.read a.place _ _ _ a.words.now room _ p q o e) record {
-      place = c.put_line.ensures.place;
-      text = c.put_line.ensures.text;
-    }
-
-pub returns-else-is_room : goal.returns-else-is_room
-returns-else-is_room c =
-    let a = c.args in
-    let room = length a.out.now - a.to in
-    let p = c.places-a.ensures.count in
-    let q = c.places-b.ensures.count in
-    let o = c.place_bytes-c.ensures.count in
-    let e = sym c.if-is_room.false ∙ c.is_room.ensures in
-    rw (line-fits a.answer a.read a.place _ _ _ a.words.now room _ p q o e) record {
-      place = refl;
-      text = refl;
+    let head : c.as_slice.result.now ≡ call_of a.answer a.read a.place =
+    c.as_slice.ensures ∙ rw c.new-head.ensures at c.call.ensures.text in
+    let whole = call_line _ a.answer a.read a.place a.words.now head in
+    record {
+      place = rw whole at c.line_with_fields.ensures.place;
+      text = rw whole at c.line_with_fields.ensures.text;
     }

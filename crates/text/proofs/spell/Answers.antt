@@ -1,5 +1,5 @@
 -- `text::spell` meets its contract. The loop's invariant: the last digits are stored, and what is left of the number is
--- what stands before them. The measure is the digits left. Assumes nothing.
+-- what stands before them. Assumes nothing.
 use Prim.Native.Nat.{◌+◌}
 use mathlib.Core.Path.{refl}
 use native.Mathlib.Omega.{arith}

@@ -1,5 +1,5 @@
 -- `text::spell` meets its contract. The loop's invariant: the last digits are stored, and what is left of the number is
--- what stands before them. The measure is the digits left. Assumes nothing.
+-- what stands before them. Assumes nothing.
 use Prim.Native.Nat.{◌+◌, ◌-◌, ◌/◌, ◌^◌, ◌≤◌}
 use mathlib.Core.Path.{◌≡◌}
 use lib.ListN.{length}
@@ -12,6 +12,3 @@ invariant-loop-i l =
     (l.i ≤ l.count) × (length l.out ≡ length l.initial.out)
     × (l.rest ≡ l.n / l.base ^ (l.count - l.i)) × (l.out ≡ sets l.initial.out (l.to + l.i)
     (digits l.base (l.count - l.i) l.n))
-
-abbrev pub decreases-loop-i : goal.decreases-loop-i
-decreases-loop-i l = l.i
