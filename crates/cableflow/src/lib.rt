@@ -18,7 +18,7 @@ use cable::{Cable, hear, is_sound};
 use inlet::{Imported, run_import};
 use outlet::run_export;
 use stream::Done;
-use tally::{SORTS, Way, one_more, tally_of};
+use tally::{Out, SORTS, one_more, tally_of};
 
 // An import: its report, with the cable after it, and how often each answer came.
 #[derive(Clone, Copy)]
@@ -97,6 +97,6 @@ pub fn export_some(group: u8, words: &[u32], out: &mut [u8]) -> ExportedAndCount
 {
     let done = run_export(group, words, out);
     let read = done.read;
-    let counts = tally_of(Way::Out(group), &words[..read]);
+    let counts = tally_of(Out(group), &words[..read]);
     ExportedAndCounts { done, counts }
 }

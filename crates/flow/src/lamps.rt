@@ -22,16 +22,11 @@ pub fn panel(table: Table, text: &mut [u8]) -> usize
         → (result ≡ length (joined (panel_lines table.records)))
         × (text.new ≡ at_start (joined (panel_lines table.records)) text.old) }
 {
-    let records = table.records;
     let mut written: usize = 0;
-    let mut i: usize = 0;
-    while i < RECORDS {
-        let record = records[i];
-        let keys = record.keys;
+    for i in 0..RECORDS {
         let group = (i / CHANNELS) as u8;
         let channel = (i % CHANNELS) as u8;
-        written = text::lamps(group, channel, keys, text, written);
-        i += 1;
+        written = text::lamps(group, channel, table.records[i].keys, text, written);
     }
     written
 }

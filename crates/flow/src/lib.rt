@@ -22,7 +22,7 @@ pub use lamps::{PANEL_BYTES, panel};
 pub use lines::list_some;
 use stream::Done;
 use table::{run_from, whole_run};
-use tally::{SORTS, Way, tally_of};
+use tally::{Down, SORTS, Up, tally_of};
 
 // The channel records.
 #[derive(Clone, Copy)]
@@ -77,7 +77,7 @@ pub fn up_some(table: Table, words: &[u32], out: &mut [u32]) -> TableReportAndCo
     let table = Table { records };
     let done = ran.done;
     let read = done.read;
-    let counts = tally_of(Way::Up, &words[..read]);
+    let counts = tally_of(Up, &words[..read]);
     TableReportAndCounts {
         table,
         done,
@@ -94,6 +94,6 @@ pub fn down_some(words: &[u32], out: &mut [u32]) -> ReportAndCounts
 {
     let done = voice::run_down(words, out, screen::open_rule());
     let read = done.read;
-    let counts = tally_of(Way::Down, &words[..read]);
+    let counts = tally_of(Down, &words[..read]);
     ReportAndCounts { done, counts }
 }

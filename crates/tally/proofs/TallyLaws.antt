@@ -4,21 +4,17 @@ use Rattle.std.proofs.Common.{◌≡◌, ℕ, zero, suc, ◌+◌, ◌%◌, ◌^�
 use Rattle.std.proofs.Common.{get_or, take, drop, set, replicate, sym, refl, ap, ◌∙◌, subst, append_assoc, append-nil}
 use Rattle.std.proofs.Common.{add-zero, add_assoc, zero-add, arith, length-append, drop-cons, eq-eqb, ne_eqb, le-leb}
 use Rattle.ground.proofs.Cases.{choose}
-use Rattle.ump.specs.Word.{voice2}
 use Rattle.ump.specs.Packet.{cut, packet, size}
-use Rattle.ump.proofs.PacketLaws.{cut_at, cut-end, packet-four, packet-near, size-range}
+use Rattle.ump.proofs.PacketLaws.{cut_at, cut-end, packet-four, size-range}
 use Rattle.stream.specs.declared.Done.{Done}
 use Rattle.stream.specs.Answers.{sent}
 use Rattle.stream.specs.Call.{Call, answer_of, fit, sent_of, stopped, went}
 use Rattle.stream.specs.Report.{counting, place_told}
-use Rattle.screen.specs.Screen.{open_rule, screen}
+use Rattle.screen.specs.Screen.{open_rule}
 use Rattle.voice.specs.Packet.{call_down_by, packet_down}
 use Rattle.voice.specs.Turn.{report_of}
 use Rattle.voice.proofs.PacketLaws.{few-down}
-use Rattle.outlet.specs.Outlet.{screen_out}
-use Rattle.tally.specs.declared.Way.{Way}
-use Rattle.tally.specs.declared.Way.TheVariants.{Up, Down, Out}
-use Rattle.tally.specs.Tally.{all_sorts, counted, from, sort_by, sort_down, sort_of, tally, tally_by, times}
+use Rattle.tally.specs.Tally.{all_sorts, counted, from, sort_down, sort_of, tally, tally_by, times}
 
 times-after : (n : ℕ) (xs : List ℕ) (a : ℕ) → times n (xs ++ (a ∷ [])) ≡ times n xs + cond (eqb a n) 1 0
 unfolding times
@@ -83,15 +79,6 @@ tally-counted xs a h =
     let e : (get_or (tally xs) a 0 + 1) % 2 ^ 64 ≡ get_or (tally xs) a 0 + 1 = omega (arith, tally-most xs a) in
     rw e (tally-more xs a)
 
--- the sort at a place is that of the piece that is cut there
-sort-near : (way : Way) (w : ℕ) (s : List ℕ) → sort_by way (take (size w) (w ∷ s)) ≡ sort_by way (w ∷ s)
-unfolding sort_by call_down_by
-sort-near Down w s =
-    ap (λ (p : List ℕ). sort_of (answer_of (packet_down p)) (place_told (answer_of (packet_down p)) p))
-    (packet-near w s)
-sort-near (Out g) w s = ap (λ (p : List ℕ). sort_of (screen_out g p).answer (screen_out g p).place) (packet-near w s)
-sort-near Up w s = ap (λ (p : List ℕ). sort_of (screen voice2 p).answer (screen voice2 p).place) (packet-near w s)
-
 -- four words are room for whatever a packet becomes
 four-fit : (c : Call (Unit {0})) → length (sent_of c) ≤ 4 → answer_of (fit 4 c) ≡ answer_of c
 four-fit (went a ws u) h = rw (le-leb (length ws) 4 h)
@@ -107,27 +94,28 @@ down-sort ws i r f =
     ∙ ap (λ (a : ℕ). sort_of a (place_told a p)) (four-fit (packet_down p)
     (few-down open_rule p (packet-four (drop i ws))))
 
-module _ (way : Way) (ws : List ℕ) where
+module _ (sort : List ℕ → ℕ) (ws : List ℕ) where
   abbrev rest : ℕ → List ℕ
-  rest i = map (sort_by way) (cut (drop i ws))
+  rest i = map sort (cut (drop i ws))
 
   -- the loop's invariant
   pub record Counts (counts : List ℕ) (i : ℕ) : Type 0 where
     pub before : List ℕ
     pub few : length before ≤ i
-    pub all : map (sort_by way) (cut ws) ≡ before ++ rest i
+    pub all : map sort (cut ws) ≡ before ++ rest i
     pub are : counts ≡ tally before
 
   pub counts_start : Counts (replicate all_sorts 0) 0
   counts_start = record { before = []; few = omega arith; all = refl; are = tally-none }
 
   pub counts-more : (counts : List ℕ) (i : ℕ) → Counts counts i → i < length ws → length ws < 2 ^ 64
-      → (a : ℕ) → a ≡ sort_by way (drop i ws) → Counts (counted counts a) (i + size (get_or ws i 0))
-  counts-more counts i c h fits a e =
+      → ((w : ℕ) (s : List ℕ) → sort (take (size w) (w ∷ s)) ≡ sort (w ∷ s))
+      → (a : ℕ) → a ≡ sort (drop i ws) → Counts (counted counts a) (i + size (get_or ws i 0))
+  counts-more counts i c h fits near a e =
       let l = i + size (get_or ws i 0) in
-      let near : sort_by way (take (size (get_or ws i 0)) (drop i ws)) ≡ a =
-      rw (e, drop-cons ws i 0 h) (sort-near way (get_or ws i 0) (drop (suc i) ws)) in
-      let step : rest i ≡ a ∷ rest l = ap (map (sort_by way)) (cut_at ws i h) ∙ rw near in
+      let own : sort (take (size (get_or ws i 0)) (drop i ws)) ≡ a =
+      rw (e, drop-cons ws i 0 h) (near (get_or ws i 0) (drop (suc i) ws)) in
+      let step : rest i ≡ a ∷ rest l = ap (map sort) (cut_at ws i h) ∙ rw own in
       record {
         before = c.before ++ (a ∷ []);
         few = omega (arith, length-append c.before (a ∷ []), c.few, size-range (get_or ws i 0));
@@ -135,6 +123,6 @@ module _ (way : Way) (ws : List ℕ) where
         are = rw c.are (tally-counted c.before a (omega (arith, c.few)));
       }
 
-  pub counts_end : (counts : List ℕ) (i : ℕ) → Counts counts i → length ws ≤ i → counts ≡ tally_by way ws
+  pub counts_end : (counts : List ℕ) (i : ℕ) → Counts counts i → length ws ≤ i → counts ≡ tally_by sort ws
   unfolding tally_by
   counts_end counts i c h = c.are ∙ ap tally (sym (c.all ∙ rw (cut-end ws i h, append-nil c.before)))

@@ -8,8 +8,6 @@ use Rattle.stream.specs.Report.{place_told}
 use Rattle.screen.specs.Screen.{screen}
 use Rattle.voice.specs.Packet.{call_down}
 use Rattle.outlet.specs.Outlet.{screen_out}
-use Rattle.tally.specs.declared.Way.{Way}
-use Rattle.tally.specs.declared.Way.TheVariants.{Up, Down, Out}
 
 -- The sort of a call: its answer, 0 to 25; and 26 to 32 are bad data at the places 1 to 7.
 abbrev pub sort_of : ℕ → ℕ → ℕ
@@ -25,11 +23,6 @@ sort_down s = sort_of (answer_of (call_down tt s)) (place_told (answer_of (call_
 
 abbrev pub sort_out : ℕ → List ℕ → ℕ
 sort_out g s = sort_of (screen_out g (packet s)).answer (screen_out g (packet s)).place
-
-unfoldable pub sort_by : Way → List ℕ → ℕ
-sort_by Up s = sort_up s
-sort_by Down s = sort_down s
-sort_by (Out g) s = sort_out g s
 
 -- how many times a number occurs
 unfoldable pub times : ℕ → List ℕ → ℕ
@@ -53,14 +46,14 @@ abbrev pub counted : List ℕ → ℕ → List ℕ
 counted counts sort = slice_set counts sort ((slice_index counts sort + 1) % 2 ^ 64)
 
 -- the same among the sorts of the packets
-unfoldable pub tally_by : Way → List ℕ → List ℕ
-tally_by way ws = tally (map (sort_by way) (cut ws))
+unfoldable pub tally_by : (List ℕ → ℕ) → List ℕ → List ℕ
+tally_by sort ws = tally (map sort (cut ws))
 
 abbrev pub tally_up : List ℕ → List ℕ
-tally_up ws = tally_by Up ws
+tally_up ws = tally_by sort_up ws
 
 abbrev pub tally_down : List ℕ → List ℕ
-tally_down ws = tally_by Down ws
+tally_down ws = tally_by sort_down ws
 
 abbrev pub tally_out : ℕ → List ℕ → List ℕ
-tally_out g ws = tally_by (Out g) ws
+tally_out g ws = tally_by (sort_out g) ws

@@ -5,12 +5,13 @@
 // more of a sort, and each says so by definitions of specs/, on every input.
 #![tactic(auto)]
 
-ghost use Rattle.std.specs.Prelude.{◌≡◌, drop};
-ghost use Rattle.tally.specs.Tally.{counted, sort_by, sort_down, sort_of, sort_out, sort_up, tally_by};
+mod ways;
 
-use screen::open_rule;
-use stream::{NOT_FOR_CABLE, SENT, report};
-use ump::MIDI2_VOICE;
+ghost use Rattle.std.specs.Prelude.{◌≡◌};
+ghost use Rattle.tally.specs.Tally.{counted, sort_of, tally_by};
+
+use stream::NOT_FOR_CABLE;
+pub use ways::{Down, Out, Up, Way};
 
 // The highest of all answers, behind which bad data stand by their places.
 pub const LAST_ANSWER: u32 = NOT_FOR_CABLE;
@@ -19,22 +20,14 @@ pub const LAST_ANSWER: u32 = NOT_FOR_CABLE;
 // behind all answers, up to the seventh.
 pub const SORTS: usize = 33;
 
-// Which call is made at each packet: up, down, or out to the cable of a group.
-#[derive(Clone, Copy)]
-pub enum Way {
-    Up,
-    Down,
-    Out(u8),
-}
-
 // The sort of a call by its answer and the place of bad data, which is 0 where there is none.
 pub fn sort_of(answer: u32, place: u32) -> u64
     ensures { result ≡ sort_of answer place }
 {
     if place == 0 {
-        answer as u64
+        u64::from(answer)
     } else {
-        LAST_ANSWER as u64 + place as u64
+        u64::from(LAST_ANSWER) + u64::from(place)
     }
 }
 
@@ -45,56 +38,19 @@ pub fn one_more(counts: [u64; SORTS], sort: u64) -> [u64; SORTS]
     let mut counts = counts;
     let k = sort as usize;
     if k < SORTS {
-        counts[k] = std::num::wrapping_add_u64(counts[k], 1);
+        counts[k] = counts[k].wrapping_add(1);
     }
     counts
 }
 
-// The sort of a packet going down, which is lowered once more, into words that nobody reads: it may have
-// no form.
-fn sort_down(words: &[u32], at: usize) -> u64
-    ensures { result ≡ sort_down (drop at words.now) }
-{
-    let mut four = [0u32; 4];
-    let done = voice::down(words, report(SENT, at, 0), &mut four, open_rule());
-    sort_of(done.answer, done.place)
-}
-
-// The sort of a packet going up, where the screening alone refuses.
-fn sort_up(words: &[u32], at: usize) -> u64
-    ensures { result ≡ sort_up (drop at words.now) }
-{
-    let screened = screen::screen(MIDI2_VOICE, ump::packet_at(words, at));
-    sort_of(screened.answer, screened.place)
-}
-
-// The sort of a packet for the cable of a group, where the screening alone refuses as well.
-fn sort_out(group: u8, words: &[u32], at: usize) -> u64
-    ensures { result ≡ sort_out group (drop at words.now) }
-{
-    let screened = outlet::screen_out(group, ump::packet_at(words, at));
-    sort_of(screened.answer, screened.place)
-}
-
-// The sort of the packet at a place.
-fn sort_at(way: Way, words: &[u32], at: usize) -> u64
-    ensures { result ≡ sort_by way (drop at words.now) }
-{
-    match way {
-        Way::Up => sort_up(words, at),
-        Way::Down => sort_down(words, at),
-        Way::Out(group) => sort_out(group, words, at),
-    }
-}
-
-// How often each sort comes among the packets of the words.
-pub fn tally_of(way: Way, words: &[u32]) -> [u64; SORTS]
-    ensures { result ≡ tally_by way words.now }
+// How often each sort comes among the packets of the words, which all go one way.
+pub fn tally_of<W: Way>(way: W, words: &[u32]) -> [u64; SORTS]
+    ensures { result ≡ tally_by (W.sort way) words.now }
 {
     let mut counts = [0u64; SORTS];
     let mut at: usize = 0;
     while at < words.len() {
-        let more = one_more(counts, sort_at(way, words, at));
+        let more = one_more(counts, way.sort_at(words, at));
         counts = more;
         at += ump::size(words[at]);
     }

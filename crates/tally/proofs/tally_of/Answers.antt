@@ -5,10 +5,10 @@ use Rattle.tally.proofs.TallyLaws.{counts_end, counts-more, counts_start}
 use Rattle.tally.proofs.tally_of.Goals as goal
 
 pub loop-at-init : goal.loop-at-init
-loop-at-init c = counts_start _ _
+loop-at-init g c = counts_start _ _
 
 pub overflow_add-at : goal.overflow_add-at
-overflow_add-at c =
+overflow_add-at g c =
     omega (
       arith,
       c.loop-at-test.true,
@@ -17,7 +17,7 @@ overflow_add-at c =
     )
 
 pub loop-at-smaller : goal.loop-at-smaller
-loop-at-smaller c =
+loop-at-smaller g c =
     omega (
       arith,
       c.size-at.ensures,
@@ -26,11 +26,12 @@ loop-at-smaller c =
     )
 
 pub loop-at-preserved : goal.loop-at-preserved
-loop-at-preserved c =
+loop-at-preserved g c =
     let a = c.args in
     let l = c.loop-at in
     rw (c.size-at.ensures, c.one_more-more.ensures)
-    (counts-more a.way a.words.now l.counts l.at l.invariant c.loop-at-test.true (omega arith) _ c.sort_at.ensures)
+    (counts-more (g.W.Way.sort a.way) a.words.now l.counts l.at l.invariant c.loop-at-test.true (omega arith)
+    (g.met.W.Way.near a.way) _ c.sort_at.ensures)
 
 pub returns : goal.returns
-returns c = let l = c.loop-at in counts_end _ _ l.counts l.at l.invariant c.loop-at-test.false
+returns g c = let l = c.loop-at in counts_end _ _ l.counts l.at l.invariant c.loop-at-test.false

@@ -1,6 +1,6 @@
 -- `flow::lamps::panel` meets its contract. The loop's invariant: what was put, and then the lines of the records left,
--- is the whole panel. The measure is the records left. Assumes nothing.
-use Prim.Native.Nat.{◌-◌, ◌≤◌}
+-- is the whole panel.. Assumes nothing.
+use Prim.Native.Nat.{◌≤◌}
 use mathlib.Core.Path.{◌≡◌}
 use lib.ListN.{drop, length}
 use Rattle.channel.specs.Record.{whole_table}
@@ -9,9 +9,6 @@ use Rattle.flow.proofs.lamps.panel.Given as goal
 
 abbrev pub invariant-loop-i : goal.invariant-loop-i
 invariant-loop-i l =
-    (l.i ≤ whole_table) × (length l.text ≡ length l.initial.text) × (length l.records ≡ whole_table)
-    × (rows_put l.initial.text 0 (panel_lines l.records)
-    ≡ rows_put l.text l.written (lines_from l.i (drop l.i l.records)))
-
-abbrev pub decreases-loop-i : goal.decreases-loop-i
-decreases-loop-i l = whole_table - l.i
+    (l.i ≤ whole_table) × (length l.text ≡ length l.initial.text) × (length l.table.records ≡ whole_table)
+    × (rows_put l.initial.text 0 (panel_lines l.table.records)
+    ≡ rows_put l.text l.written (lines_from l.i (drop l.i l.table.records)))

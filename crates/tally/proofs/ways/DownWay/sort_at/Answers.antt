@@ -1,7 +1,7 @@
--- `tally::sort_down` meets its contract: four words are room for whatever a packet becomes.
+-- `tally::ways::Down` counts by the call that lowers: four words are room for whatever a packet becomes.
 use Rattle.std.proofs.Common.{◌∙◌}
 use Rattle.tally.proofs.TallyLaws.{down-sort}
-use Rattle.tally.proofs.sort_down.Goals as goal
+use Rattle.tally.proofs.ways.DownWay.sort_at.Goals as goal
 
 pub returns : goal.returns
 returns c =
