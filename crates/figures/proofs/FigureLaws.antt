@@ -5,7 +5,7 @@ use mathlib.Core.List.{List, [], ◌∷◌, ◌++◌, append_assoc, append-nil}
 use native.Mathlib.Omega.{arith}
 use native.Mathlib.Nat.{mul_assoc, mul_comm, mul_right_comm, mul-sub, pow-suc, zero-add}
 use lib.Dec.{eqb}
-use lib.ListN.{length, length-append, length-set, set}
+use lib.ListN.{length, length-append, set}
 use lib.Seq.{sets}
 use borrow.Author.Tests.{eq-eqb, eqb-true, ne_eqb}
 use lib.Pow.{pow-add}
@@ -27,49 +27,51 @@ unfolding fraction_digits
 no-digits zero r e = refl
 no-digits (suc k) r e = rw (eq-eqb r 0 e)
 
-a-digit : (k r : ℕ) → (r ≡ 0 → ⊥)
-    → fraction_digits (suc k) r ≡ (48 + r * 10 / 2 ^ 31) ∷ fraction_digits k (r * 10 % 2 ^ 31)
+a-digit : (k r : ℕ) → 0 < k → (r ≡ 0 → ⊥)
+    → fraction_digits k r ≡ (48 + r * 10 / 2 ^ 31) ∷ fraction_digits (k - 1) (r * 10 % 2 ^ 31)
 unfolding fraction_digits
-a-digit k r h = rw (ne_eqb r 0 h)
+a-digit zero r p h = absurd (omega arith)
+a-digit (suc k) r p h =
+    let left : suc k - 1 ≡ k = omega arith in
+    rw (left, ne_eqb r 0 h)
 
 -- ---- the loop
 
 module _ (row₀ : List ℕ) (at rest : ℕ) where
-  -- the digits that are stored, and those to come, are all
-  pub record Stored (row : List ℕ) (more left end : ℕ) : Type 0 where
+  -- the digits that are stored, and those of the places left, are all
+  pub record Stored (row : List ℕ) (left end : ℕ) : Type 0 where
     pub before : List ℕ
+    pub more : ℕ
     pub count : length before + more ≡ 31
     pub small : left < 2 ^ 31
     pub place : end ≡ at + length before
-    pub long : length row ≡ length row₀
     pub is : row ≡ sets row₀ at before
     pub all : fraction_digits 31 rest ≡ before ++ fraction_digits more left
 
-  pub start : rest < 2 ^ 31 → Stored row₀ 31 rest at
+  pub start : rest < 2 ^ 31 → Stored row₀ rest at
   start h =
-      record { before = []; count = refl; small = h; place = omega arith; long = refl; is = refl; all = refl }
+      record { before = []; more = 31; count = refl; small = h; place = omega arith; is = refl; all = refl }
 
-  pub step : (row : List ℕ) (more left end : ℕ) → Stored row more left end → 0 < more → (left ≡ 0 → ⊥)
-      → Stored (set row end (48 + left * 10 / 2 ^ 31)) (more - 1) (left * 10 % 2 ^ 31) (end + 1)
-  step row zero left end s h n = absurd (omega arith)
-  step row (suc k) left end s h n =
+  pub step : (row : List ℕ) (left end : ℕ) → Stored row left end → end < at + 31 → (left ≡ 0 → ⊥)
+      → Stored (set row end (48 + left * 10 / 2 ^ 31)) (left * 10 % 2 ^ 31) (end + 1)
+  step row left end s h n =
       let d = 48 + left * 10 / 2 ^ 31 in
       let one = length-append s.before (d ∷ []) in
-      let k= : suc k - 1 ≡ k = omega arith in
+      let some : 0 < s.more = omega (arith, s.count, s.place, h) in
       record {
         before = s.before ++ (d ∷ []);
-        count = omega (arith, one, s.count);
+        more = s.more - 1;
+        count = omega (arith, one, s.count, some);
         small = omega arith;
         place = omega (arith, one, s.place);
-        long = length-set row end d ∙ s.long;
         is = rw (s.is, s.place) (sym (sets-append row₀ at s.before (d ∷ [])));
-        all = s.all ∙ rw (k=, a-digit k left n) (sym (append_assoc s.before (d ∷ []) (fraction_digits k (left * 10 % 2 ^ 31))));
+        all = s.all ∙ rw (a-digit s.more left some n) (sym (append_assoc s.before (d ∷ []) (fraction_digits (s.more - 1) (left * 10 % 2 ^ 31))));
       }
 
   -- nothing is left, of the number or of the places
-  pub finish : (row : List ℕ) (more left end : ℕ) → Stored row more left end → fraction_digits more left ≡ []
+  pub finish : (row : List ℕ) (left end : ℕ) (s : Stored row left end) → fraction_digits s.more left ≡ []
       → (end ≡ at + length (fraction_digits 31 rest)) × (row ≡ sets row₀ at (fraction_digits 31 rest))
-  finish row more left end s e =
+  finish row left end s e =
       let a : fraction_digits 31 rest ≡ s.before = s.all ∙ rw e (append-nil s.before) in
       rw a (s.place, s.is)
 

@@ -25,10 +25,8 @@ fn put_digits(rest: u64, row: &mut [u8], at: usize) -> usize
     ensures place { result ≡ at + length (fraction_digits 31 rest) }
     ensures text { row.new ≡ sets row.old at (fraction_digits 31 rest) }
 {
-    let mut more = PLACES;
     let mut left = rest;
-    let mut end = at;
-    while 0 < more {
+    for end in at..at + PLACES {
         if left == 0 {
             return end;
         }
@@ -36,10 +34,8 @@ fn put_digits(rest: u64, row: &mut [u8], at: usize) -> usize
         let digit = (tenfold / UNIT) as u8;
         row[end] = b'0' + digit;
         left = tenfold % UNIT;
-        end += 1;
-        more -= 1;
     }
-    end
+    at + PLACES
 }
 
 // Stores the whole number, and answers its length.
