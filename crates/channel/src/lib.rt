@@ -35,18 +35,15 @@ impl Record {
     pub fn is_sound(self) -> bool
         ensures { result ≡ sound self }
     {
-        let memory = self.memory;
-        memory.is_sound()
+        self.memory.is_sound()
     }
 
     // The mark is set, or taken off by 0. No key is touched.
     pub fn with_mark(self, coarse: u8) -> Record
         ensures { result ≡ with_mark self coarse }
     {
-        let keys = self.keys;
-        let memory = self.memory;
-        let memory = memory.with_mark(coarse);
-        Record { keys, memory }
+        let memory = self.memory.with_mark(coarse);
+        Record { memory, ..self }
     }
 }
 

@@ -9,19 +9,22 @@
 
 ghost use Rattle.std.specs.Prelude.{◌≡◌, ◌&&◌, leb};
 ghost use Rattle.memory.specs.Memory.{StaysSound, address_open, addressed, assignable, banked, complete};
-ghost use Rattle.memory.specs.Memory.{data_high_present, empty, kept, mark_by, marked, marked_as, null, number};
+ghost use Rattle.memory.specs.Memory.{data_high_present, empty, kept, mark_by, marked, null, number};
 ghost use Rattle.memory.specs.Memory.{registered, sound, sound_bank, with_address_bank, with_address_closed};
 ghost use Rattle.memory.specs.Memory.{with_address_index, with_bank_high, with_bank_low, with_bank_spent, with_data_high};
 ghost use Rattle.memory.specs.Memory.{with_mark};
 
+// Kept: the kind is a number of the record in C, and a lent one may hold any, so it is no enum.
 // Kind: no address.
 pub const NONE: u16 = 0;
 // Kind: the address of a registered controller.
 pub const REGISTERED: u16 = 1;
 // Kind: the address of an assignable controller.
 pub const ASSIGNABLE: u16 = 2;
+// Kept: each number is a byte of the record in C, and a lent one may hold any, so none is an `Option`.
 // A number that is not there.
 pub const MISSING: u8 = 255;
+// Kept: the mark is a byte of the record in C, and a lent one may hold any number, so it is no `bool`.
 // No mark, and the mark.
 const UNMARKED: u8 = 0;
 
@@ -52,6 +55,7 @@ fn is_number(n: u8) -> bool
 }
 
 // The other half of an address: it stays where the kind stays.
+#[tactic(auto, unfolding(crate::specs::Memory::kept))]
 fn kept_half(old: u16, kind: u16, half: u8) -> u8
     ensures { result ≡ kept old kind half }
 {
@@ -85,7 +89,7 @@ impl Memory {
     pub fn address_complete(self) -> bool
         ensures { result ≡ complete self }
     {
-        !(self.kind == NONE) & (!(self.address_bank == MISSING) & !(self.address_index == MISSING))
+        (self.kind != NONE) & ((self.address_bank != MISSING) & (self.address_index != MISSING))
     }
 
     // Registered 127/127.
@@ -106,13 +110,13 @@ impl Memory {
     pub fn is_coarse(self) -> bool
         ensures { result ≡ marked self }
     {
-        !(self.coarse == UNMARKED)
+        self.coarse != UNMARKED
     }
 
     pub fn data_high_present(self) -> bool
         ensures { result ≡ data_high_present self }
     {
-        !(self.data_high == MISSING)
+        self.data_high != MISSING
     }
 
     // The bank halves are numbers, and the mark is at most so much.
@@ -158,13 +162,9 @@ impl Memory {
         ensures { result ≡ banked high low self }
     {
         Memory {
-            kind: self.kind,
             bank_high: high,
             bank_low: low,
-            address_bank: self.address_bank,
-            address_index: self.address_index,
-            data_high: self.data_high,
-            coarse: self.coarse,
+            ..self
         }
     }
 
@@ -173,26 +173,10 @@ impl Memory {
     {
         Memory {
             kind,
-            bank_high: self.bank_high,
-            bank_low: self.bank_low,
             address_bank: bank,
             address_index: index,
             data_high: high,
-            coarse: self.coarse,
-        }
-    }
-
-    fn marked_as(self, coarse: u8) -> Memory
-        ensures { result ≡ marked_as coarse self }
-    {
-        Memory {
-            kind: self.kind,
-            bank_high: self.bank_high,
-            bank_low: self.bank_low,
-            address_bank: self.address_bank,
-            address_index: self.address_index,
-            data_high: self.data_high,
-            coarse,
+            ..self
         }
     }
 
@@ -253,11 +237,15 @@ impl Memory {
     }
 
     // Control change 6: only where the address is open, and there is no mark.
+    #[tactic(auto, unfolding(crate::specs::Memory::with_data_high))]
     pub fn with_data_high(self, v: u8) -> Memory
         ensures { result ≡ with_data_high self v }
     {
         if self.address_open() & !self.is_coarse() {
-            self.addressed(self.kind, self.address_bank, self.address_index, v)
+            Memory {
+                data_high: v,
+                ..self
+            }
         } else {
             self
         }
@@ -281,7 +269,10 @@ impl Memory {
     pub fn with_mark(self, coarse: u8) -> Memory
         ensures { result ≡ with_mark self coarse }
     {
-        let without = self.addressed(self.kind, self.address_bank, self.address_index, MISSING);
-        without.marked_as(mark_by(coarse))
+        Memory {
+            data_high: MISSING,
+            coarse: mark_by(coarse),
+            ..self
+        }
     }
 }
