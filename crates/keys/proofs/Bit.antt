@@ -12,8 +12,7 @@ use lib.Bits.{bit_and, bit_or, and_shr, and_mod, or_shr, or_mod, and_zero_r, or_
 use lib.Count.{ones, ones_cat, count_trailing_zeros, under}
 use borrow.Author.Tests.{eq-eqb, ne_eqb}
 use Rattle.keys.specs.Keys.{bit, with_bit, without, tally, least, or_key}
-use Rattle.keys.specs.declared.Lowest.{Lowest}
-use Rattle.keys.specs.declared.Lowest.TheVariants.{None, Key}
+use Rattle.std.specs.Prelude.{Option, None, Some}
 
 -- bit k of n, as a number
 abbrev pub at : ℕ → ℕ → ℕ
@@ -142,38 +141,38 @@ pub least-ext : (p q : ℕ → Bool) (n : ℕ) → ((j : ℕ) → j < n → p j 
 unfolding least
 least-ext p q zero h = refl
 least-ext p q (suc n) h =
-    ap₂ (λ (x : Lowest) (b : Bool). or_key x (cond b (Key n) None)) (least-ext p q n (λ j l. h j (omega arith))) (h n (omega arith))
+    ap₂ (λ (x : Option ℕ) (b : Bool). or_key x (cond b (Some n) None)) (least-ext p q n (λ j l. h j (omega arith))) (h n (omega arith))
 
 pub least-none : (p : ℕ → Bool) (n : ℕ) → ((j : ℕ) → j < n → p j ≡ false) → least p n ≡ None
 unfolding least or_key
 least-none p zero h = refl
 least-none p (suc n) h =
-    ap₂ (λ (x : Lowest) (b : Bool). or_key x (cond b (Key n) None)) (least-none p n (λ j l. h j (omega arith))) (h n (omega arith))
+    ap₂ (λ (x : Option ℕ) (b : Bool). or_key x (cond b (Some n) None)) (least-none p n (λ j l. h j (omega arith))) (h n (omega arith))
 
-key-first : (p : ℕ → Bool) (k n : ℕ) → least p n ≡ Key k → least p (suc n) ≡ Key k
+key-first : (p : ℕ → Bool) (k n : ℕ) → least p n ≡ Some k → least p (suc n) ≡ Some k
 unfolding least or_key
-key-first p k n h = ap (λ (x : Lowest). or_key x (cond (p n) (Key n) None)) h
+key-first p k n h = ap (λ (x : Option ℕ). or_key x (cond (p n) (Some n) None)) h
 
 -- a key that has p, below n, with none below it, is the least
-pub least-key : (p : ℕ → Bool) (k n : ℕ) → k < n → p k ≡ true → ((j : ℕ) → j < k → p j ≡ false) → least p n ≡ Key k
+pub least-key : (p : ℕ → Bool) (k n : ℕ) → k < n → p k ≡ true → ((j : ℕ) → j < k → p j ≡ false) → least p n ≡ Some k
 unfolding least or_key
 least-key p k zero l h o = absurd (omega arith)
 least-key p k (suc n) l h o =
     ⊎_elim (λ (e : k ≡ n).
-    ap₂ (λ (x : Lowest) (b : Bool). or_key x (cond b (Key n) None)) (least-none p n (λ j m. o j (omega arith))) (ap p (sym e) ∙ h) ∙ ap Key (sym e))
+    ap₂ (λ (x : Option ℕ) (b : Bool). or_key x (cond b (Some n) None)) (least-none p n (λ j m. o j (omega arith))) (ap p (sym e) ∙ h) ∙ ap Some (sym e))
     (λ (m : k < n). key-first p k n (least-key p k n m h o))
     (eq-or-lt_of_le (le_of_suc-le-suc l))
 
 -- what `least` found
-unfoldable pub Found : (ℕ → Bool) → ℕ → Lowest → Type 0
+unfoldable pub Found : (ℕ → Bool) → ℕ → Option ℕ → Type 0
 Found p n None = (j : ℕ) → j < n → p j ≡ false
-Found p n (Key k) = (k < n) × (p k ≡ true) × ((j : ℕ) → j < k → p j ≡ false)
+Found p n (Some k) = (k < n) × (p k ≡ true) × ((j : ℕ) → j < k → p j ≡ false)
 
-found-next : (p : ℕ → Bool) (n : ℕ) (l : Lowest) (b : Bool) → p n ≡ b → Found p n l → Found p (suc n) (or_key l (cond b (Key n) None))
+found-next : (p : ℕ → Bool) (n : ℕ) (l : Option ℕ) (b : Bool) → p n ≡ b → Found p n l → Found p (suc n) (or_key l (cond b (Some n) None))
 unfolding Found or_key
 found-next p n None true e f = (omega arith, e, f)
 found-next p n None false e f = λ j l. ⊎_elim (λ (q : j ≡ n). ap p q ∙ e) (λ (m : j < n). f j m) (eq-or-lt_of_le (le_of_suc-le-suc l))
-found-next p n (Key k) b e f = (omega (arith, f.0), f.1, f.2)
+found-next p n (Some k) b e f = (omega (arith, f.0), f.1, f.2)
 
 pub found : (p : ℕ → Bool) (n : ℕ) → Found p n (least p n)
 unfolding Found least

@@ -9,7 +9,7 @@ use lib.Count.{ones, count_trailing_zeros}
 use borrow.Author.Tests.{lt-ltb, le-ltb, ltb-true, ltb-false}
 use Rattle.keys.specs.Keys.{bit, down, empty_keys, changed, pressed, released, with_bit, without, tally, least}
 use Rattle.keys.specs.declared.Keys.{Keys}
-use Rattle.keys.specs.declared.Lowest.TheVariants.{None, Key}
+use Rattle.std.specs.Prelude.{None, Some}
 use Rattle.keys.specs.History.{Single, Lowests}
 use Rattle.keys.proofs.Bit.{with-same, with-other, without-same, without_other, no-bit, ones-tally, tally-ext, tally-split, least-none, least-key, tz-clear, tz-set, Found, found, tally-zero, zero-tally}
 
@@ -53,27 +53,20 @@ module _ (f : ℕ → ℕ → ℕ) (s : Keys) (k : ℕ) where
   unfolding changed
   out_of_range_lem h = simp (le-ltb k 64 (omega arith), le-ltb k 128 h)
 
--- The half of a key is changed in its place, the same way whichever half it is.
-in-its-half : (f : ℕ → ℕ → ℕ) (s : Keys) (k : ℕ) → k < 128
-    → let half = f (cond (ltb k 64) s.low s.high) (k % 64) in
-    record { low = cond (ltb k 64) half s.low; high = cond (ltb k 64) s.high half } ≡ changed f s k
-in-its-half f s k m = by (place k)
-  where
-    by : Place k → let half = f (cond (ltb k 64) s.low s.high) (k % 64) in
-        record { low = cond (ltb k 64) half s.low; high = cond (ltb k 64) s.high half } ≡ changed f s k
-    by (in_low h) = rw (in-low f s k h, lt-ltb k 64 h, mod-eq_of_lt h)
-    by (in_high h l) =
-        let e : k % 64 ≡ k - 64 = omega arith in
-        rw (in-high f s k h l, le-ltb k 64 h, e)
-    by (nowhere h) = absurd (omega arith)
+-- The half of a key is changed in its place, and the other stays.
+pub low-with-key : (s : Keys) (k old half : ℕ) (d : Bool) → k < 64 → old ≡ s.low
+    → half ≡ cond d (with_bit old (k % 64)) (without old (k % 64))
+    → record { low = half; high = s.high } ≡ cond d (pressed s k) (released s k)
+low-with-key s k old half true h o e = rw (e, o, mod-eq_of_lt h) (sym (in-low with_bit s k h))
+low-with-key s k old half false h o e = rw (e, o, mod-eq_of_lt h) (sym (in-low without s k h))
 
-pub with-key : (s : Keys) (k : ℕ) (d : Bool) → k < 128
-    → let old = cond (ltb k 64) s.low s.high in
-    let half = cond d (with_bit old (k % 64)) (without old (k % 64)) in
-    record { low = cond (ltb k 64) half s.low; high = cond (ltb k 64) s.high half }
-    ≡ cond d (pressed s k) (released s k)
-with-key s k true m = in-its-half with_bit s k m
-with-key s k false m = in-its-half without s k m
+pub high-with-key : (s : Keys) (k old half : ℕ) (d : Bool) → 64 ≤ k → k < 128 → old ≡ s.high
+    → half ≡ cond d (with_bit old (k % 64)) (without old (k % 64))
+    → record { low = s.low; high = half } ≡ cond d (pressed s k) (released s k)
+high-with-key s k old half true h l o e =
+    let m : k % 64 ≡ k - 64 = omega arith in rw (e, o, m) (sym (in-high with_bit s k h l))
+high-with-key s k old half false h l o e =
+    let m : k % 64 ≡ k - 64 = omega arith in rw (e, o, m) (sym (in-high without s k h l))
 
 -- a number above 127 is no key
 pub no-such-key : (s : Keys) (k : ℕ) (d : Bool) → 127 < k → s ≡ cond d (pressed s k) (released s k)
@@ -137,7 +130,7 @@ module _ (s : Keys) (hl : s.low < 2 ^ 64) (hh : s.high < 2 ^ 64) where
       up : (j : ℕ) → j < 64 → down s (64 + j) ≡ bit s.high j
       up j l = high-key s (64 + j) (omega arith) (omega arith) ∙ ap (bit s.high) (omega arith)
 
-  pub lowest-low : (s.low ≡ 0 → ⊥) → least (down s) 128 ≡ Key (count_trailing_zeros 64 s.low)
+  pub lowest-low : (s.low ≡ 0 → ⊥) → least (down s) 128 ≡ Some (count_trailing_zeros 64 s.low)
   lowest-low o =
       let t = tz-set 64 s.low (omega arith) hl in
       least-key (down s) (count_trailing_zeros 64 s.low) 128 (omega (arith, t.0)) (low-key s _ t.0 ∙ t.1)
@@ -146,7 +139,7 @@ module _ (s : Keys) (hl : s.low < 2 ^ 64) (hh : s.high < 2 ^ 64) where
   none-low : s.low ≡ 0 → (j : ℕ) → j < 64 → down s j ≡ false
   none-low e j l = low-key s j l ∙ ap (λ (x : ℕ). bit x j) e ∙ no-bit j
 
-  pub lowest-high : s.low ≡ 0 → (s.high ≡ 0 → ⊥) → least (down s) 128 ≡ Key (64 + count_trailing_zeros 64 s.high)
+  pub lowest-high : s.low ≡ 0 → (s.high ≡ 0 → ⊥) → least (down s) 128 ≡ Some (64 + count_trailing_zeros 64 s.high)
   lowest-high e o =
       let t = tz-set 64 s.high (omega arith) hh in
       least-key (down s) (64 + count_trailing_zeros 64 s.high) 128 (omega (arith, t.0))

@@ -1,7 +1,6 @@
 -- What a row of events says of the keys, and the laws of the keys that are down (02 M-103).
-use Rattle.std.specs.Prelude.{◌≡◌, Bool, true, false, cond, List, [], ◌∷◌, ℕ, ◌≤◌, ◌<◌, eqb}
+use Rattle.std.specs.Prelude.{◌≡◌, Bool, true, false, cond, List, [], ◌∷◌, ℕ, ◌≤◌, ◌<◌, eqb, None, Some}
 use Rattle.keys.specs.declared.Keys.{Keys}
-use Rattle.keys.specs.declared.Lowest.TheVariants.{None, Key}
 use Rattle.keys.specs.Keys.{down, down_count, empty_keys, least_down, pressed, released}
 
 -- what a message does to the keys of its channel
@@ -52,7 +51,7 @@ pub record Single : Type 0 where
 
 -- the lowest key is down and none below it is; there is none where the count is 0, and nowhere else
 pub record Lowests : Type 0 where
-  pub is_down : (s : Keys) (k : ℕ) → least_down s ≡ Key k → down s k ≡ true
-  pub is_least : (s : Keys) (k j : ℕ) → least_down s ≡ Key k → j < k → down s j ≡ false
+  pub is_down : (s : Keys) (k : ℕ) → least_down s ≡ Some k → down s k ≡ true
+  pub is_least : (s : Keys) (k j : ℕ) → least_down s ≡ Some k → j < k → down s j ≡ false
   pub none_zero : (s : Keys) → least_down s ≡ None → down_count s ≡ 0
   pub zero_none : (s : Keys) → down_count s ≡ 0 → least_down s ≡ None

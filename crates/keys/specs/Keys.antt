@@ -1,9 +1,7 @@
 -- The keys of a channel that are down (RULES 5.7; 02 M-103): one bit for each, how many they are, and the lowest.
-use Rattle.std.specs.Prelude.{ℕ, zero, suc, ◌+◌, ◌-◌, ◌/◌, ◌%◌, ◌^◌, Bool, false, cond, eqb, ltb}
+use Rattle.std.specs.Prelude.{ℕ, zero, suc, ◌+◌, ◌-◌, ◌/◌, ◌%◌, ◌^◌, Bool, false, cond, eqb, ltb, Option, None, Some}
 use Rattle.std.specs.Int.Bits.{bit_and, bit_or}
 use Rattle.keys.specs.declared.Keys.{Keys}
-use Rattle.keys.specs.declared.Lowest.{Lowest}
-use Rattle.keys.specs.declared.Lowest.TheVariants.{None, Key}
 
 -- bit k of n is set
 unfoldable pub bit : ℕ → ℕ → Bool
@@ -41,16 +39,16 @@ tally p zero = 0
 tally p (suc n) = tally p n + cond (p n) 1 0
 
 -- the least of the numbers below n that has p
-unfoldable pub or_key : Lowest → Lowest → Lowest
+unfoldable pub or_key : Option ℕ → Option ℕ → Option ℕ
 or_key None b = b
-or_key (Key k) b = Key k
+or_key (Some k) b = Some k
 
-unfoldable pub least : (ℕ → Bool) → ℕ → Lowest
+unfoldable pub least : (ℕ → Bool) → ℕ → Option ℕ
 least p zero = None
-least p (suc n) = or_key (least p n) (cond (p n) (Key n) None)
+least p (suc n) = or_key (least p n) (cond (p n) (Some n) None)
 
 abbrev pub down_count : Keys → ℕ
 down_count s = tally (down s) 128
 
-abbrev pub least_down : Keys → Lowest
+abbrev pub least_down : Keys → Option ℕ
 least_down s = least (down s) 128

@@ -17,25 +17,13 @@ pub struct Keys {
     pub high: u64,
 }
 
-#[derive(Clone, Copy)]
-pub enum Lowest {
-    None,
-    Key(u8),
-}
-
-fn either(first: bool, a: u64, b: u64) -> u64
-    ensures { result ≡ cond first a b }
-{
-    if first { a } else { b }
-}
-
 // A half with one bit set or cleared.
 fn with_bit(half: u64, at: u8, set: bool) -> u64
     requires { at < 64 }
     ensures { result ≡ cond set (with_bit half at) (without half at) }
 {
     let mask = 1u64 << at;
-    either(set, half | mask, half & !mask)
+    if set { half | mask } else { half & !mask }
 }
 
 impl Keys {
@@ -46,7 +34,8 @@ impl Keys {
         Keys { low: 0, high: 0 }
     }
 
-    // With a key down or up; a number above 127 is no key. There is no branch on the half.
+    // With a key down or up; a number above 127 is no key. The half is picked before its bit is changed, so that there
+    // is no jump on it.
     pub fn with_key(self, key: u8, down: bool) -> Keys
         ensures { result ≡ cond down (pressed self key) (released self key) }
     {
@@ -54,10 +43,12 @@ impl Keys {
             return self;
         }
         let in_low = key < 64;
-        let half = with_bit(either(in_low, self.low, self.high), key % 64, down);
-        Keys {
-            low: either(in_low, half, self.low),
-            high: either(in_low, self.high, half),
+        let old = if in_low { self.low } else { self.high };
+        let half = with_bit(old, key % 64, down);
+        if in_low {
+            Keys { low: half, ..self }
+        } else {
+            Keys { high: half, ..self }
         }
     }
 
@@ -82,18 +73,18 @@ impl Keys {
         low + high
     }
 
-    pub fn lowest(self) -> Lowest
+    pub fn lowest(self) -> Option<u8>
         ensures { result ≡ least_down self }
     {
         if self.low != 0 {
             let zeros = u64::trailing_zeros(self.low);
-            Lowest::Key(zeros as u8)
+            Some(zeros as u8)
         } else if self.high != 0 {
             let above = u64::trailing_zeros(self.high);
             let key = 64 + above;
-            Lowest::Key(key as u8)
+            Some(key as u8)
         } else {
-            Lowest::None
+            None
         }
     }
 }

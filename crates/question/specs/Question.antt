@@ -1,9 +1,7 @@
 -- What is asked of a table (RULES 5.8; 02 M-103): the keys that are down on a channel.
-use Rattle.std.specs.Prelude.{ℕ, Bool, cond, ◌&&◌, List, eqb, leb, get_or, length}
+use Rattle.std.specs.Prelude.{ℕ, Bool, cond, ◌&&◌, List, Option, None, Some, eqb, leb, get_or, length}
 use Rattle.ump.specs.Word.{record_number}
 use Rattle.stream.specs.Answers.{answered, no_table, out_of_range}
-use Rattle.keys.specs.declared.Lowest.{Lowest}
-use Rattle.keys.specs.declared.Lowest.TheVariants.{None, Key}
 use Rattle.keys.specs.Keys.{down_count, least_down}
 use Rattle.channel.specs.declared.Record.{Record}
 use Rattle.channel.specs.Record.{empty, whole_table}
@@ -18,9 +16,9 @@ abbrev pub place_asked : ℕ → ℕ → ℕ
 place_asked group channel = record_number (record { 0 = group }) (record { 0 = channel })
 
 -- the lowest key by its number, and 255 for none
-unfoldable pub lowest_told : Lowest → ℕ
+unfoldable pub lowest_told : Option ℕ → ℕ
 lowest_told None = 255
-lowest_told (Key k) = k
+lowest_told (Some k) = k
 
 -- no key is shown, and how many and which
 abbrev pub showing_none : ℕ → KeysDown

@@ -8,14 +8,13 @@ ghost use Rattle.std.specs.Prelude.{◌≡◌};
 ghost use Rattle.question.specs.Question.{in_range, keys_shown, keys_told, lowest_told, place_asked, showing_none};
 
 use channel::{RECORDS, Record};
-use keys::Lowest;
 use stream::{ANSWERED, NO_TABLE, OUT_OF_RANGE};
 use ump::{Channel, Group};
 
 // The most that a group or a channel may be.
 const MOST: u8 = 15;
 
-// Stands for the lowest key where none is down.
+// Kept: C has no `Option`, so the number 255 stands for the lowest key where none is down.
 pub const NO_KEY: u32 = 255;
 
 // What is answered: how many keys are down, and the lowest.
@@ -40,12 +39,14 @@ pub fn place_asked(group: u8, channel: u8) -> usize
     ump::record_number(Group(group), Channel(channel))
 }
 
-fn lowest_told(lowest: Lowest) -> u32
+// The lowest key by its number.
+#[tactic(auto, unfolding(crate::specs::Question::lowest_told))]
+fn lowest_told(lowest: Option<u8>) -> u32
     ensures { result ≡ lowest_told lowest }
 {
     match lowest {
-        Lowest::None => NO_KEY,
-        Lowest::Key(key) => key as u32,
+        None => NO_KEY,
+        Some(key) => u32::from(key),
     }
 }
 
@@ -64,12 +65,10 @@ fn keys_shown(record: Record) -> KeysDown
     ensures { result ≡ keys_shown «record» }
 {
     let keys = record.keys;
-    let down = keys.count();
-    let lowest = keys.lowest();
     KeysDown {
         answer: ANSWERED,
-        down,
-        lowest: lowest_told(lowest),
+        down: keys.count(),
+        lowest: lowest_told(keys.lowest()),
     }
 }
 
@@ -77,13 +76,11 @@ fn keys_shown(record: Record) -> KeysDown
 pub fn keys_told(n: usize, group: u8, channel: u8, record: Record) -> KeysDown
     ensures { result ≡ keys_told n group channel «record» }
 {
-    if n == RECORDS {
-        if is_in_range(group, channel) {
-            keys_shown(record)
-        } else {
-            showing_none(OUT_OF_RANGE)
-        }
-    } else {
+    if n != RECORDS {
         showing_none(NO_TABLE)
+    } else if is_in_range(group, channel) {
+        keys_shown(record)
+    } else {
+        showing_none(OUT_OF_RANGE)
     }
 }

@@ -8,8 +8,7 @@ use native.Mathlib.Numerals.{add-one}
 use lib.ListN.{length, length-append}
 use Rattle.ground.proofs.Cases.{choose}
 use Rattle.keys.specs.declared.Keys.{Keys}
-use Rattle.keys.specs.declared.Lowest.{Lowest}
-use Rattle.keys.specs.declared.Lowest.TheVariants.{None, Key}
+use Rattle.std.specs.Prelude.{Option, None, Some}
 use Rattle.keys.specs.Keys.{down, down_count, least_down, tally}
 use Rattle.keys.proofs.Bit.{Found, found}
 use Rattle.text.specs.Lines.{place_after, places, with_row}
@@ -72,7 +71,7 @@ module _ (group channel : ℕ) (keys : Keys) (lowest : ℕ) where
       omega (arith, line-long)
 
 -- a channel with no key down has no line, and nothing is put in its place
-pub no_line : (group channel : ℕ) (keys : Keys) (lowest : Lowest) (l : List ℕ) (to : ℕ)
+pub no_line : (group channel : ℕ) (keys : Keys) (lowest : Option ℕ) (l : List ℕ) (to : ℕ)
     → lowest ≡ least_down keys → lowest ≡ None
     → (to ≡ place_after l to (channel_line group channel keys)) × (l ≡ with_row l to (channel_line group channel keys))
 unfolding line_from
@@ -80,8 +79,8 @@ no_line group channel keys lowest l to e n =
     let z : channel_line group channel keys ≡ [] = ap (line_from group channel keys) (sym e ∙ n) in rw z (none-put l to)
 
 -- any other has its own, by its lowest key
-pub its-line : (group channel : ℕ) (keys : Keys) (lowest : Lowest) (k : ℕ)
-    → lowest ≡ least_down keys → lowest ≡ Key k → channel_line group channel keys ≡ lamps_line group channel keys k
+pub its-line : (group channel : ℕ) (keys : Keys) (lowest : Option ℕ) (k : ℕ)
+    → lowest ≡ least_down keys → lowest ≡ Some k → channel_line group channel keys ≡ lamps_line group channel keys k
 unfolding line_from
 its-line group channel keys lowest k e n = ap (line_from group channel keys) (sym e ∙ n)
 
@@ -99,9 +98,9 @@ pub line-most : (group channel : ℕ) (keys : Keys) → group < 100 → channel 
 unfolding line_from Found
 line-most group channel keys hg hc = go (least_down keys) (found (down keys) 128)
   where
-    go : (l : Lowest) → Found (down keys) 128 l → length (line_from group channel keys l) ≤ 143
+    go : (l : Option ℕ) → Found (down keys) 128 l → length (line_from group channel keys l) ≤ 143
     go None f = omega arith
-    go (Key k) f =
+    go (Some k) f =
         let n = down_count keys in
         omega (
           arith,

@@ -1,8 +1,6 @@
 -- RULES 10.4: a line of the panel, in ASCII: four decimal numbers with a space after each, and a lamp for each key.
-use Rattle.std.specs.Prelude.{ℕ, zero, suc, Bool, cond, List, [], ◌∷◌, ◌++◌}
+use Rattle.std.specs.Prelude.{ℕ, zero, suc, Bool, cond, List, [], ◌∷◌, ◌++◌, Option, None, Some}
 use Rattle.keys.specs.declared.Keys.{Keys}
-use Rattle.keys.specs.declared.Lowest.{Lowest}
-use Rattle.keys.specs.declared.Lowest.TheVariants.{None, Key}
 use Rattle.keys.specs.Keys.{down, down_count, least_down}
 use Rattle.text.specs.Lines.{number_then}
 
@@ -30,9 +28,9 @@ lamps_line group channel keys lowest =
     ++ lamp_row keys ++ (10 ∷ [])
 
 -- RULES 10.4: a channel with no key down has no line
-unfoldable pub line_from : ℕ → ℕ → Keys → Lowest → List ℕ
+unfoldable pub line_from : ℕ → ℕ → Keys → Option ℕ → List ℕ
 line_from group channel keys None = []
-line_from group channel keys (Key k) = lamps_line group channel keys k
+line_from group channel keys (Some k) = lamps_line group channel keys k
 
 abbrev pub channel_line : ℕ → ℕ → Keys → List ℕ
 channel_line group channel keys = line_from group channel keys (least_down keys)

@@ -8,7 +8,7 @@ ghost use Rattle.text.specs.Lamps;
 use crate::made::Made;
 use crate::rows::row;
 use crate::{NEWLINE, SPACE};
-use keys::{Keys, Lowest};
+use keys::Keys;
 
 // How many keys there are, each with a lamp.
 const KEYS: u8 = 128;
@@ -41,8 +41,8 @@ pub fn lamps(group: u8, channel: u8, keys: Keys, out: &mut [u8], to: usize) -> u
 {
     let lowest = keys.lowest();
     match lowest {
-        Lowest::None => to,
-        Lowest::Key(key) => {
+        None => to,
+        Some(key) => {
             let mut line = Made::<213>::new();
             line.number_then(group as u64, SPACE);
             line.number_then(channel as u64, SPACE);

@@ -14,21 +14,21 @@ returns-in-None c =
       text = r.1;
     }
 
-pub returns-in-Key : goal.returns-in-Key
+pub returns-in-Some : goal.returns-in-Some
 unfolding lamps_line
-returns-in-Key c =
+returns-in-Some c =
     let a = c.args in
-    let its = its-line a.group a.channel a.keys _ (c.in-Key.key) c.lowest-lowest.ensures c.in-Key.is in
+    let its = its-line a.group a.channel a.keys _ (c.in-Some.key) c.lowest-lowest.ensures c.in-Some.is in
     let whole : c.as_slice.result.now ≡ channel_line a.group a.channel a.keys =
     c.as_slice.ensures
     ∙ rw (
       its,
       c.byte.ensures.text,
       c.lamps.ensures.text,
-      c.number_then-in-Key-3.ensures.text,
-      c.number_then-in-Key-2.ensures.text,
+      c.number_then-in-Some-3.ensures.text,
+      c.number_then-in-Some-2.ensures.text,
       c.count.ensures,
-      c.number_then-in-Key.ensures.text,
+      c.number_then-in-Some.ensures.text,
       c.number_then.ensures.text,
       c.new-line.ensures,
     ) in
