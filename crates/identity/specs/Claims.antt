@@ -1,14 +1,13 @@
 -- What is claimed of maker identities (01 "Layouts and rules for later parts"; 02 M-106).
-use Rattle.std.specs.Prelude.{ℕ, ◌/◌, ◌%◌, ◌≤◌, ◌<◌, ◌≡◌, ◌↔◌, ◌⊎◌, List, [], ◌∷◌}
-use Rattle.std.proofs.Math.Option.{none, some}
+use Rattle.std.specs.Prelude.{ℕ, None, Some, ◌/◌, ◌%◌, ◌≤◌, ◌<◌, ◌≡◌, ◌↔◌, ◌⊎◌, List, [], ◌∷◌}
 use Rattle.ground.specs.Lists.{All}
 use Rattle.identity.specs.Identity.{new_of, old_of}
 
 -- Turned one way and back, an identity is the same, from either side. A new form has 16 bits.
 pub record ThereAndBack : Type 0 where
-  pub old : (s : List ℕ) (n : ℕ) → new_of s ≡ some n → old_of n ≡ some s
-  pub new : (n : ℕ) (s : List ℕ) → n < 0x10000 → old_of n ≡ some s → new_of s ≡ some n
-  pub small : (s : List ℕ) (n : ℕ) → new_of s ≡ some n → n < 0x10000
+  pub old : (s : List ℕ) (n : ℕ) → new_of s ≡ Some n → old_of n ≡ Some s
+  pub new : (n : ℕ) (s : List ℕ) → n < 0x10000 → old_of n ≡ Some s → new_of s ≡ Some n
+  pub small : (s : List ℕ) (n : ℕ) → new_of s ≡ Some n → n < 0x10000
 
 -- one byte from 1 to 127, or 0 and two more bytes of at most 127 each
 abbrev pub OldForm : List ℕ → Type 0
@@ -24,8 +23,8 @@ Without n = (n ≡ 0) ⊎ (((n < 0x8000) × (0x80 ≤ n)) ⊎ ((0x8000 ≤ n) ×
 
 -- there is no counterpart in just these cases
 pub record Counterparts : Type 0 where
-  pub old : (s : List ℕ) → (new_of s ≡ none) ↔ (OldForm s → ⊥)
-  pub new : (n : ℕ) → (old_of n ≡ none) ↔ Without n
+  pub old : (s : List ℕ) → (new_of s ≡ None) ↔ (OldForm s → ⊥)
+  pub new : (n : ℕ) → (old_of n ≡ None) ↔ Without n
 
 -- An identity in both forms.
 pub record Example : Type 0 where
@@ -46,4 +45,4 @@ examples =
 
 -- each turns into the other
 unfoldable pub Examples : Type 0
-Examples = All (λ (e : Example). (new_of e.old ≡ some e.new) × (old_of e.new ≡ some e.old)) examples
+Examples = All (λ (e : Example). (new_of e.old ≡ Some e.new) × (old_of e.new ≡ Some e.old)) examples

@@ -5,13 +5,13 @@
 // nothing, and what exactly has no counterpart, is claimed of the same definitions.
 #![tactic(auto)]
 
-ghost use Rattle.std.specs.Prelude.{◌≡◌, [], ◌∷◌};
-ghost use Rattle.std.proofs.Math.Option as Option;
+ghost use Rattle.std.specs.Prelude.{◌≡◌};
 ghost use Rattle.identity.specs.Identity.{identity_from, maker_from, new_of, old_of};
 ghost use Rattle.identity.specs.Claims.{Counterparts, Examples, ThereAndBack};
 
 use stream::{ANSWERED, NO_COUNTERPART};
 
+// Kept: C has no `Option`, so an answer stands beside the number.
 // The number of an identity, or 0 where it has none.
 #[repr(C)]
 #[derive(Clone, Copy)]
@@ -20,6 +20,7 @@ pub struct Identity {
     pub number: u32,
 }
 
+// Kept: C has no slice to hand back, so a count stands beside the bytes.
 // The bytes of an identity, of which the first `count` count, or none. The others are 0.
 #[repr(C)]
 #[derive(Clone, Copy)]
@@ -35,97 +36,61 @@ const MOST: u8 = 127;
 // The bit of a number that tells three bytes from one.
 const THREE_BYTES: u16 = 0x8000;
 
-fn wide(byte: u8) -> u32
-    ensures { result ≡ byte }
+// The number of an old form: of one byte, or of three, of which the first has to be 0.
+#[tactic(auto, unfolding(crate::specs::Identity::new_of))]
+fn number_of(old: &[u8]) -> Option<u16>
+    ensures { result ≡ new_of old.now }
 {
-    byte as u32
-}
-
-fn no_number() -> Identity
-    ensures { result ≡ identity_from Option.none }
-{
-    Identity {
-        answer: NO_COUNTERPART,
-        number: 0,
-    }
-}
-
-// The number of one byte.
-fn from_one(byte: u8) -> Identity
-    ensures { result ≡ identity_from (new_of (byte ∷ [])) }
-{
-    if (1 <= byte) & (byte <= MOST) {
-        Identity {
-            answer: ANSWERED,
-            number: wide(byte),
+    match old {
+        [byte] if (1 <= *byte) & (*byte <= MOST) => Some(u16::from(*byte)),
+        [0, high, low] if (*high <= MOST) & (*low <= MOST) => {
+            Some(THREE_BYTES + u16::from(*high) * 0x100 + u16::from(*low))
         }
-    } else {
-        no_number()
-    }
-}
-
-// The number of three bytes, of which the first has to be 0.
-fn from_three(first: u8, high: u8, low: u8) -> Identity
-    ensures { result ≡ identity_from (new_of (first ∷ high ∷ low ∷ [])) }
-{
-    if (first == 0) & ((high <= MOST) & (low <= MOST)) {
-        Identity {
-            answer: ANSWERED,
-            number: THREE_BYTES as u32 + wide(high) * 0x100 + wide(low),
-        }
-    } else {
-        no_number()
+        _ => None,
     }
 }
 
 // The form of 16 bits of an old identity.
+#[tactic(auto, unfolding(crate::specs::Identity::identity_from))]
 pub fn identity_new(old: &[u8]) -> Identity
     ensures { result ≡ identity_from (new_of old.now) }
 {
-    if old.len() == 1 {
-        return from_one(old[0]);
-    }
-    if old.len() == 3 {
-        return from_three(old[0], old[1], old[2]);
-    }
-    no_number()
-}
-
-fn no_maker() -> Maker
-    ensures { result ≡ maker_from Option.none }
-{
-    Maker {
-        answer: NO_COUNTERPART,
-        count: 0,
-        bytes: [0, 0, 0, 0],
+    match number_of(old) {
+        Some(number) => Identity {
+            answer: ANSWERED,
+            number: u32::from(number),
+        },
+        None => Identity {
+            answer: NO_COUNTERPART,
+            number: 0,
+        },
     }
 }
 
-// The old form of an identity of 16 bits.
+// The old form of an identity of 16 bits: three bytes from bit 15 on, unless bit 7 is set, or one byte.
+#[tactic(auto, unfolding(crate::specs::Identity::old_of, crate::specs::Identity::maker_from))]
 pub fn identity_old(number: u16) -> Maker
     ensures { result ≡ maker_from (old_of number) }
 {
-    if THREE_BYTES <= number {
-        if number / 0x80 % 2 == 1 {
-            return no_maker();
-        }
-        return Maker {
+    if (THREE_BYTES <= number) & (number / 0x80 % 2 == 0) {
+        Maker {
             answer: ANSWERED,
             count: 3,
             bytes: [0, (number / 0x100 % 0x80) as u8, (number % 0x80) as u8, 0],
-        };
-    }
-    if number < 1 {
-        return no_maker();
-    }
-    if number <= MOST as u16 {
-        return Maker {
+        }
+    } else if (1 <= number) & (number <= u16::from(MOST)) {
+        Maker {
             answer: ANSWERED,
             count: 1,
             bytes: [number as u8, 0, 0, 0],
-        };
+        }
+    } else {
+        Maker {
+            answer: NO_COUNTERPART,
+            count: 0,
+            bytes: [0; 4],
+        }
     }
-    no_maker()
 }
 
 // Turned one way and back, an identity is the same, from either side.
