@@ -17,7 +17,7 @@ use Rattle.stream.specs.Answers.{bad_address, bad_data, bad_status, cut_packet, 
 use Rattle.stream.specs.Answers.{sent}
 use Rattle.stream.specs.Answers.{taken_in, too_long, too_many_packets}
 use Rattle.stream.specs.Report.{place_told}
-use Rattle.screen.specs.declared.Screened.{Screened}
+use Rattle.screen.specs.Screen.{Screened}
 use Rattle.screen.specs.Screen.{admitted, answering, goes_on, neither_type, outside, reserved, screen_by}
 use Rattle.piece.specs.Piece.{Piece, chain_by, chain_for, exclusive, flex, no_chain, strange_address}
 use Rattle.chains.specs.declared.Chain.{Chain}

@@ -13,7 +13,7 @@ use Rattle.ump.specs.Word.{message_type}
 use Rattle.ump.specs.Packet.{first}
 use Rattle.fields.specs.Check.{bad_place_of, good_status}
 use Rattle.stream.specs.Answers.{bad_address, bad_data, bad_status, cut_packet, reserved_type, taken_in, wrong_protocol}
-use Rattle.screen.specs.declared.Screened.{Screened}
+use Rattle.screen.specs.Screen.{Screened}
 use Rattle.screen.specs.Screen.{admitted, answering, goes_on, neither_type, outside, reserved, screen, screen_by}
 use Rattle.piece.specs.Piece.{chain_by, no_chain, strange_address}
 use Rattle.piece.proofs.PieceLaws.{chain-most}

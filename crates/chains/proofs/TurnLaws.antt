@@ -16,7 +16,7 @@ use Rattle.ump.specs.Packet.{first, packet}
 use Rattle.ump.proofs.PacketLaws.{at_none}
 use Rattle.fields.specs.Check.{bad_place_of, good_status}
 use Rattle.stream.specs.Answers.{bad_address, cut_packet, sent, taken_in}
-use Rattle.screen.specs.declared.Screened.{Screened}
+use Rattle.screen.specs.Screen.{Screened}
 use Rattle.screen.specs.Screen.{admitted, answering, goes_on, neither_type, outside, reserved, screen, screen_by}
 use Rattle.piece.specs.Piece.{address_of, chain_by, chain_for, flex, no_chain, slot_by}
 use Rattle.piece.specs.Piece.{Piece, strange_address}

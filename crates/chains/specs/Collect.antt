@@ -4,7 +4,7 @@
 use Rattle.std.specs.Prelude.{ℕ, ◌+◌, ◌*◌, ◌/◌, Bool, cond, List, ◌++◌, length, get_or, set, take, drop, eqb}
 use Rattle.ump.specs.Packet.{first, packet}
 use Rattle.stream.specs.Answers.{bad_address, no_table, taken_in}
-use Rattle.screen.specs.declared.Screened.{Screened}
+use Rattle.screen.specs.Screen.{Screened}
 use Rattle.screen.specs.Screen.{answering, goes_on, neither_type, screen}
 use Rattle.piece.specs.Piece.{Piece, chain_by, no_chain, piece_in, strange_address}
 use Rattle.chains.specs.declared.Chain.{Chain}

@@ -80,7 +80,7 @@ pub(crate) fn is_good(words: &[u32], n: usize) -> bool
         return fields::is_voice1_status(w) & fields::is_good_voice1(w);
     }
     if t == MIDI2_VOICE {
-        return fields::is_good_status(w) & (fields::bad_place(w, words[1]) == 0);
+        return fields::is_good_voice2(w, words[1]);
     }
     if n < 2 {
         return fields::is_good_unchanged(w, 0);

@@ -23,7 +23,7 @@ ghost use Rattle.chains.specs.Turn.{besides, called_with, named_by};
 use check::{is_asked, is_good, whole_size};
 use part::take;
 use piece::{NO_CHAIN, has_strange_address, slot_of};
-use screen::{NEITHER_TYPE, screen};
+use screen::screen;
 use std::ops::ControlFlow;
 use stream::{BAD_ADDRESS, CUT, NO_TABLE, OUT_OF_TURN, TAKEN_IN, TOO_LONG, TOO_MANY_PACKETS};
 use ump::{packet_at, word_at};
@@ -146,8 +146,10 @@ fn aside(c: Chain, part: usize, words: &[u32], n: usize) -> Collected
         }
         return beside(TAKEN_IN, 0, n);
     }
-    let found = screen(NEITHER_TYPE, packet_at(words, 0));
-    beside(found.answer, found.place, n)
+    match screen(None, packet_at(words, 0)) {
+        Ok(()) => beside(TAKEN_IN, 0, n),
+        Err(refusal) => beside(refusal.answer, refusal.place, n),
+    }
 }
 
 // Takes the packet at the start of the words, with the chain that stands in its slot.

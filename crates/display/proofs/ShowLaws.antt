@@ -21,7 +21,7 @@ use Rattle.stream.specs.Run.{run}
 use Rattle.stream.proofs.CallLaws.{refusal, refused-fits}
 use Rattle.stream.proofs.RunLoop.{DidRun, Inside, Runs, packet-inside, turn}
 use Rattle.text.specs.Lines.{decimal, place_after, with_row}
-use Rattle.screen.specs.declared.Screened.{Screened}
+use Rattle.screen.specs.Screen.{Screened}
 use Rattle.screen.specs.Screen.{goes_on, neither_type, open_rule, screen, screen_by, screened}
 use Rattle.screen.proofs.ScreenLaws.{cut-only, screen-place}
 use Rattle.tuning.specs.declared.Desk.{Desk}

@@ -18,7 +18,7 @@ use Rattle.stream.specs.Answers.{bad_data, bad_status, cut_packet, not_for_cable
 use Rattle.stream.specs.Call.{refused, stopped, went}
 use Rattle.stream.proofs.RunLoop.{Inside, packet-inside}
 use Rattle.stream.proofs.Stateless.{So}
-use Rattle.screen.specs.declared.Screened.{Screened}
+use Rattle.screen.specs.Screen.{Screened}
 use Rattle.screen.specs.Screen.{answering, checking, goes_on, reserved, screened}
 use Rattle.cable.specs.State.{pick}
 use Rattle.outlet.specs.Outlet.{bytes_of, giving, ours, packet_out, screen_out, step_out}

@@ -6,7 +6,7 @@ use Rattle.fields.specs.Check.{checked_fields, good_status}
 use Rattle.stream.specs.Answers.{cut_packet, not_for_cable, out_of_range, reserved_type, sent, taken_in}
 use Rattle.stream.specs.Call.{Call, went, within}
 use Rattle.stream.specs.Run.{Ran, called, run}
-use Rattle.screen.specs.declared.Screened.{Screened}
+use Rattle.screen.specs.Screen.{Screened}
 use Rattle.screen.specs.Screen.{answering, checking, goes_on, reserved, screened}
 use Rattle.cable.specs.State.{need, pick}
 

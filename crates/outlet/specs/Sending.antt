@@ -6,7 +6,7 @@ use Rattle.stream.specs.declared.Done.{Done}
 use Rattle.stream.specs.Answers.{no_room, sent, taken_in}
 use Rattle.stream.specs.Call.{Call, read_of, sent_of, stopped, went, within}
 use Rattle.stream.specs.Report.{counting, placing}
-use Rattle.screen.specs.declared.Screened.{Screened}
+use Rattle.screen.specs.Screen.{Screened}
 use Rattle.screen.specs.Screen.{checking}
 use Rattle.cable.specs.Put.{Put}
 use Rattle.cable.specs.State.{pick}

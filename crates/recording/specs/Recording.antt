@@ -4,7 +4,7 @@ use Rattle.std.specs.List.{starts_with}
 use Rattle.ump.specs.Packet.{first}
 use Rattle.ump.specs.Word.{bits, message_type, status}
 use Rattle.stream.specs.Answers.{cut_packet, wrong_mark, wrong_version}
-use Rattle.screen.specs.declared.Screened.{Screened}
+use Rattle.screen.specs.Screen.{Screened}
 use Rattle.screen.specs.Screen.{goes_on, neither_type, screen}
 use Rattle.text.specs.Rescue.{bytes_line, drop_line, number_line, ticks_line}
 use Rattle.text.specs.Lines.{fits_from}

@@ -11,7 +11,7 @@ ghost use Rattle.recording.specs.Recording.{cut_line, header, header_answer, lef
 ghost use Rattle.recording.specs.Recording.{number_of, passes, past_after, place_if_put, stamp_in, start};
 ghost use Rattle.recording.specs.Recording.{text_of, ticks_between};
 
-use screen::{GOES_ON, NEITHER_TYPE};
+use screen::screen;
 use stream::{CUT, WRONG_MARK, WRONG_VERSION};
 use ump::{message_type, status, word_at};
 
@@ -91,8 +91,7 @@ pub fn header_answer(bytes: &[u8]) -> Result<(), HeaderError>
 pub fn is_kept(packet: &[u32]) -> bool
     ensures { result ≡ passes packet.now }
 {
-    let found = screen::screen(NEITHER_TYPE, packet);
-    found.answer == GOES_ON
+    screen(None, packet).is_ok()
 }
 
 // The stamp of a JR Timestamp, which is the low half of its word. Any other packet has none.
@@ -139,16 +138,14 @@ impl Past {
     pub fn line(self, packet: &[u32]) -> Option<Line>
         ensures { result ≡ line_of self packet.now }
     {
-        let found = screen::screen(NEITHER_TYPE, packet);
-        if found.answer == GOES_ON {
-            kept_line(self.stamp, word_at(packet, 0))
-        } else {
-            Some(Line::Drop {
+        match screen(None, packet) {
+            Ok(()) => kept_line(self.stamp, word_at(packet, 0)),
+            Err(refusal) => Some(Line::Drop {
                 place: self.place,
-                answer: found.answer,
+                answer: refusal.answer,
                 words: packet.len(),
-                field: found.place,
-            })
+                field: refusal.place,
+            }),
         }
     }
 

@@ -15,7 +15,7 @@ use Rattle.ump.specs.Word.{message_type, status}
 use Rattle.ump.specs.Packet.{Whole, cut, cut_after, first, packet, second, size}
 use Rattle.ump.proofs.PacketLaws.{packet-whole, size-range}
 use Rattle.stream.specs.Answers.{bad_data, bad_status, reserved_type, wrong_protocol}
-use Rattle.screen.specs.declared.Screened.{Screened}
+use Rattle.screen.specs.Screen.{Screened}
 use Rattle.screen.specs.Screen.{admitted, answering, outside, reserved, screen_by}
 use Rattle.fields.specs.Check.{bad_place, checked_fields, good_status}
 use Rattle.recording.specs.Recording.{found, is_stamp, passes}

@@ -20,8 +20,8 @@ use Rattle.stream.specs.Report.{place_told}
 use Rattle.screen.specs.declared.Rule.{Rule}
 use Rattle.screen.specs.Screen.{Screened}
 use Rattle.fields.specs.Check.{Field, bad_place, bad_place_of, checked_fields, good_fields, good_status, unchanged}
-use Rattle.std.specs.Prelude.{Option, Some, None, is_some}
-use Rattle.screen.specs.Screen.{beyond, admitted, answering, beginners_rule, check_voice1, checking, for_beginners}
+use Rattle.std.specs.Prelude.{Option, Some, None, Ok, Err, is_some}
+use Rattle.screen.specs.Screen.{beyond, judged, admitted, answering, beginners_rule, check_voice1, checking, for_beginners}
 use Rattle.screen.specs.Screen.{fenced_rule, goes_on, outside, reserved, ruled, screen, screen_by, screen_voice1, screened}
 
 -- no packet lies outside where there is no fence
@@ -181,3 +181,11 @@ pub screened-cond : {T : Type 0} (s : Screened) (t : T) (b : Bool) (x y : Call T
     → screened s t (cond b x y) ≡ cond b (screened s t x) (screened s t y)
 screened-cond s t true x y = refl
 screened-cond s t false x y = refl
+
+-- a screening as a result, by whether the packet goes on
+pub judged-good : (s : Screened) → eqb s.answer goes_on ≡ true → judged s ≡ Ok tt
+judged-good s e = rw e
+
+pub judged-bad : (s : Screened) → eqb s.answer goes_on ≡ false
+    → judged s ≡ Err (record { answer = s.answer; place = s.place })
+judged-bad s e = rw e

@@ -7,7 +7,7 @@ use borrow.Author.Tests.{ne_eqb}
 use lib.Dec.{eqb}
 use Rattle.ump.specs.Word.{byte3, byte4, data1, status}
 use Rattle.ump.specs.Packet.{first, packet, second}
-use Rattle.screen.specs.declared.Screened.{Screened}
+use Rattle.screen.specs.Screen.{Screened}
 use Rattle.screen.specs.Screen.{goes_on, neither_type, screen}
 use Rattle.tuning.specs.declared.Desk.{Desk}
 use Rattle.tuning.specs.declared.Sound.TheVariants.{Silent}

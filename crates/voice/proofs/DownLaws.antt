@@ -20,7 +20,7 @@ use Rattle.stream.specs.Answers.{cut_packet, no_form, no_room, sent}
 use Rattle.stream.specs.Call.{Call, refused, sent_of, went}
 use Rattle.stream.specs.Report.{counting, place_told, placing}
 use Rattle.screen.specs.declared.Rule.{Rule}
-use Rattle.screen.specs.declared.Screened.{Screened}
+use Rattle.screen.specs.Screen.{Screened}
 use Rattle.screen.specs.Screen.{goes_on, open_rule, ruled, screen_by, screened}
 use Rattle.fields.specs.Check.{good_fields, voice2_fields}
 use Rattle.screen.proofs.DownLaws.{unruled-lets, voice2-goes}

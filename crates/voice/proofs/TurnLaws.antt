@@ -24,7 +24,7 @@ use Rattle.stream.specs.Call.{Call, answer_of, left_of, read_of, refused, sent_o
 use Rattle.stream.specs.Report.{counting, place_told, placing}
 use Rattle.stream.proofs.CallLaws.{refusal, refused-fits}
 use Rattle.screen.specs.declared.Rule.{Rule}
-use Rattle.screen.specs.declared.Screened.{Screened}
+use Rattle.screen.specs.Screen.{Screened}
 use Rattle.screen.specs.Screen.{goes_on, screen_by, screen_voice1, screened}
 use Rattle.screen.proofs.ScreenLaws.{cut-only, refused-above, screen-place, screen-word}
 use Rattle.channel.specs.declared.Record.{Record}

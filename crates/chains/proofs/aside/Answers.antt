@@ -4,7 +4,10 @@ use mathlib.Core.Bool.{true, false}
 use native.Mathlib.Omega.{arith}
 use lib.ListN.{length}
 use Rattle.ump.specs.Packet.{first, packet}
-use Rattle.screen.specs.Screen.{neither_type, screen}
+use mathlib.Core.List.{List}
+use Prim.Native.Nat.{ℕ}
+use Rattle.screen.specs.Screen.{judged, neither_type, screen}
+use Rattle.screen.proofs.ScreenLaws.{judged-bad}
 use Rattle.piece.specs.Piece.{strange_address}
 use Rattle.piece.proofs.PieceLaws.{slot-low}
 use Rattle.chains.proofs.StandLaws.{first_of, whole-at}
@@ -50,11 +53,22 @@ returns-then-is_good c = let a = c.args in
     ap strange_address w ∙ sym c.has_strange_address.ensures ∙ c.if-has_strange_address.false in
     c.beside.ensures ∙ rw q.0 (report-no-chain a.c a.part ws g t q.2)
 
-pub returns : goal.returns
-returns c = let a = c.args in
+pub returns-in-Ok : goal.returns-in-Ok
+returns-in-Ok c =
+    let p = packet c.args.words.now in
+    let found = c.screen.ensures ∙ ap (λ (p : List ℕ). judged (screen neither_type p)) c.packet_at.ensures in
+    let bad = judged-bad (screen neither_type p) (sym c.is_good.ensures ∙ c.if-is_good.false) in
+    let both = sym c.in-Ok.is ∙ found ∙ bad in
+    absurd (cc both)
+
+pub returns-in-Err : goal.returns-in-Err
+returns-in-Err c = let a = c.args in
     let q = c.requires in
     let ws = a.words.now in
-    let some : length (packet ws) ≡ 0 → ⊥ = λ z. q.1 (q.0 ∙ z) in
+    let s = screen neither_type (packet ws) in
     let g = sym c.is_good.ensures ∙ c.if-is_good.false in
-    let f = c.screen-found.ensures ∙ ap (screen neither_type) c.packet_at.ensures in
-    c.beside-2.ensures ∙ rw (q.0, f) (report-bad a.c a.part ws g)
+    let found = c.screen.ensures ∙ ap (λ (p : List ℕ). judged (screen neither_type p)) c.packet_at.ensures in
+    let both = sym c.in-Err.is ∙ found ∙ judged-bad s g in
+    let answer : c.in-Err.refusal.answer ≡ s.answer = cc both in
+    let place : c.in-Err.refusal.place ≡ s.place = cc both in
+    c.beside-in-Err.ensures ∙ rw (answer, place, q.0) (report-bad a.c a.part ws g)

@@ -5,6 +5,7 @@ use mathlib.Core.Logic.{inr}
 use native.Mathlib.Omega.{arith}
 use lib.ListN.{length}
 use Rattle.ump.specs.Packet.{packet}
+use Rattle.fields.specs.Check.{checked_fields, good_status}
 use Rattle.chains.proofs.StandLaws.{double-at, single-at, size-two, voice1-at, voice2-at, whole-at, words-of}
 use Rattle.chains.proofs.check.is_good.Goals as goal
 
@@ -29,12 +30,13 @@ bounds-words-1 c = let a = c.args in
     omega (arith, (whole-at a.words.now 0 some).fits, size-two _ (inr e))
 
 pub returns-then-t-eq-MIDI2_VOICE : goal.returns-then-t-eq-MIDI2_VOICE
+unfolding good_status checked_fields
 returns-then-t-eq-MIDI2_VOICE c = let a = c.args in
     let q = c.requires in
     let some : length (packet a.words.now) ≡ 0 → ⊥ = λ z. q.1 (q.0 ∙ z) in
     let e = sym c.message_type-t.ensures
     ∙ c.if-t-eq-MIDI2_VOICE.true in
-    rw (c.bad_place.ensures, c.is_good_status.ensures) (voice2-at a.words.now 0 some e)
+    c.is_good_voice2.ensures ∙ rw e at (voice2-at a.words.now 0 some e)
 
 pub returns-then-n-lt2 : goal.returns-then-n-lt2
 returns-then-n-lt2 c = let a = c.args in
