@@ -84,6 +84,32 @@ module _ (cs : List Chain) (b ws : List ℕ) (at : ℕ) where
       go (inl e) = ap (λ (c : Chain). buffer_with c b s) (own-chain (inl e))
       go (inr n) = buffer-same old b s n ∙ sym (buffer-same (chain_at (chain_of s) cs) b s n)
 
+  calm : (refusal_of s ≡ goes_on → ⊥) → drops (refusal_of s) ≡ false
+  calm n = go (same_or_not (length (packet s)) 0)
+    where
+      go : (length (packet s) ≡ 0) ⊎ (length (packet s) ≡ 0 → ⊥) → drops (refusal_of s) ≡ false
+      go (inl z) = ap drops (refusal-cut s z)
+      go (inr some) = (quiet (packet s) some n).2
+
+  -- whether an open chain is dropped
+  pub own-open : open_at cs (report_of cs b s).chain && drops (report_of cs b s).answer
+      ≡ (not (eqb old.packets 0) && drops (report_of cs b s).answer)
+  unfolding open_at collected
+  own-open = go (same_or_not (refusal_of s) goes_on)
+    where
+      go : (refusal_of s ≡ goes_on) ⊎ (refusal_of s ≡ goes_on → ⊥)
+          → open_at cs (report_of cs b s).chain && drops (report_of cs b s).answer
+          ≡ (not (eqb old.packets 0) && drops (report_of cs b s).answer)
+      go (inl e) =
+          let k : (report_of cs b s).chain ≡ slot =
+          ap (λ (z : Collected). z.chain) (report-piece (chain_at (chain_of s) cs) (share b) s e)
+          ∙ sym (own-slot (inl e)) in
+          rw (k, lt-ltb slot no_chain (slot-low (get_or ws at 0)))
+      go (inr n) =
+          let d : drops (report_of cs b s).answer ≡ false =
+          ap drops (answer-other (chain_at (chain_of s) cs) (share b) s n) ∙ calm n in
+          rw (d, and-false (open_at cs (report_of cs b s).chain), and-false (not (eqb old.packets 0)))
+
 -- over a list of 32
 module _ (cs : List Chain) (b ws : List ℕ) (at : ℕ) (full : length cs ≡ whole_list) where
   abbrev r : List ℕ
@@ -114,33 +140,10 @@ module _ (cs : List Chain) (b ws : List ℕ) (at : ℕ) (full : length cs ≡ wh
       ap (set cs (slot cs b ws at)) (sym (chain_same (old cs b ws at) (share b) r (eqb-false (refusal_of r) goes_on e)))
       ∙ slot-chains
 
-  calm : (refusal_of r ≡ goes_on → ⊥) → drops (refusal_of r) ≡ false
-  calm n = go (same_or_not (length (packet r)) 0)
-    where
-      go : (length (packet r) ≡ 0) ⊎ (length (packet r) ≡ 0 → ⊥) → drops (refusal_of r) ≡ false
-      go (inl z) = ap drops (refusal-cut r z)
-      go (inr some) = (quiet (packet r) some n).2
-
   -- whether it stops a run
   same-open : open_at cs (collected_of cs b r).chain && drops (collected_of cs b r).answer
       ≡ (not (eqb (old cs b ws at).packets 0) && drops (collected_of cs b r).answer)
-  unfolding open_at collected
-  same-open = go (same_or_not (refusal_of r) goes_on)
-    where
-      go : (refusal_of r ≡ goes_on) ⊎ (refusal_of r ≡ goes_on → ⊥)
-          → open_at cs (collected_of cs b r).chain && drops (collected_of cs b r).answer
-          ≡ (not (eqb (old cs b ws at).packets 0) && drops (collected_of cs b r).answer)
-      go (inl e) =
-          let k : (collected_of cs b r).chain ≡ (slot cs b ws at) =
-          ap (λ (z : Collected). z.chain) (whole-report cs b r full ∙ report-piece (chain_at (chain_of r) cs) (share b)
-          r e)
-          ∙ sym (own-slot cs b ws at (inl e)) in
-          rw (k, lt-ltb (slot cs b ws at) no_chain (slot-low (get_or ws at 0)))
-      go (inr n) =
-          let d : drops (collected_of cs b r).answer ≡ false =
-          ap (λ (z : Collected). drops z.answer) (whole-report cs b r full)
-          ∙ ap drops (answer-other (chain_at (chain_of r) cs) (share b) r n) ∙ calm n in
-          rw (d, and-false (open_at cs (collected_of cs b r).chain), and-false (not (eqb (old cs b ws at).packets 0)))
+  same-open = rw (whole-report cs b r full) (own-open cs b ws at)
 
   pub slot-progress : progress_after (old cs b ws at) at (length ws) (report_with (old cs b ws at) (share b) r)
       ≡ progress_of cs b ws at

@@ -1,7 +1,7 @@
 -- What one packet comes to, as the code says it and as the definition does; and that a step looks at its own packet
 -- alone, goes on only with a whole one, and always has room for its line. Assumes nothing.
 use Prim.Native.Nat.{ℕ, ◌+◌, ◌-◌, ◌≤◌}
-use mathlib.Core.Path.{◌≡◌, refl, sym, ap, ◌∙◌, subst}
+use mathlib.Core.Path.{◌≡◌, refl, sym, ap, ap₂, ◌∙◌, subst}
 use mathlib.Core.Bool.{true, false}
 use mathlib.Core.Logic.{⊎_elim}
 use mathlib.Core.List.{List, [], ◌∷◌}
@@ -29,7 +29,7 @@ use Rattle.piece.specs.Piece.{chain_by}
 use Rattle.chains.specs.Collect.{buffer_of, chain_at, chain_of, chains_of, report_of, share}
 use Rattle.chains.proofs.TurnLaws.{refusal-cut}
 use Rattle.chains.proofs.RunLaws.{buffer-near, chain-near, report-near}
-use Rattle.chains.proofs.CollectLaws.{buffer-same}
+use Rattle.chains.proofs.CollectLaws.{buffer-same, chains-same}
 use Rattle.chains.proofs.WithinLaws.{reads, reads-within, stands-within}
 use Rattle.tally.specs.Tally.{counted, sort_of}
 use Rattle.text.specs.Lines.{place_after, with_row}
@@ -37,7 +37,12 @@ use Rattle.gather.specs.Gather.{Held, collected_at, gather, gathered_after, gath
 use Rattle.gather.specs.Gather.{line_at, longest}
 use Rattle.gather.proofs.LineLaws.{line-short}
 
--- a cut packet leaves the buffer as it was
+-- a cut packet leaves the chains and the buffer as they were
+pub cut-chains : (cs : List Chain) (b s : List ℕ) → length (packet s) ≡ 0 → chains_of cs b s ≡ cs
+cut-chains cs b s h =
+    let e = refusal-cut s h in
+    chains-same cs b s (λ g. omega (arith, e, g))
+
 pub cut-kept : (cs : List Chain) (b s : List ℕ) → length (packet s) ≡ 0 → buffer_of cs b s ≡ b
 cut-kept cs b s h =
     let e = refusal-cut s h in
@@ -145,17 +150,19 @@ module _ (h : Held) (s text : List ℕ) (d : Done) where
   unfolding gather
   at-full e = rw e (rw (add-zero d.read, add-zero d.written), refl, sym (written_none d.written text))
 
-  pub at_cut : (r : Collected) (b' : List ℕ) → r ≡ collected_at h s → b' ≡ buffer_of h.chains h.buffer s
+  pub at_cut : (r : Collected) (cs' : List Chain) (b' : List ℕ) → r ≡ collected_at h s
+      → cs' ≡ chains_of h.chains h.buffer s → b' ≡ buffer_of h.chains h.buffer s
       → ltb free (longest (length h.buffer)) ≡ false → r.read ≡ 0
-      → At (counting cut_packet d.read d.written) (held h.chains h.counts b') text
+      → At (counting cut_packet d.read d.written) (held cs' h.counts b') text
   unfolding gather
-  at_cut r b' er eb e z =
+  at_cut r cs' b' er es eb e z =
       let k : length (packet s) ≡ 0 =
       sym (reads (chain_at (chain_of s) h.chains) (share h.buffer) s)
       ∙ sym (ap (λ (x : Collected). x.read) er) ∙ z in
       rw (e, eq-eqb (length (packet s)) 0 k) (
         rw (add-zero d.read, add-zero d.written),
-        ap (λ (b : List ℕ). held h.chains h.counts b) (eb ∙ cut-kept h.chains h.buffer s k),
+        ap₂ (λ (cs : List Chain) (b : List ℕ). held cs h.counts b) (es ∙ cut-chains h.chains h.buffer s k)
+            (eb ∙ cut-kept h.chains h.buffer s k),
         sym (written_none d.written text),
       )
 

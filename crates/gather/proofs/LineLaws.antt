@@ -2,7 +2,7 @@
 -- a line has at most twelve, and the answers that drop have two digits. Assumes nothing.
 use Prim.Native.Nat.{ℕ, ◌≤◌, ◌<◌}
 use mathlib.Core.Path.{◌≡◌, sym, ◌∙◌}
-use mathlib.Core.Bool.{true, false, ◌&&◌}
+use mathlib.Core.Bool.{Bool, true, false, ◌&&◌}
 use mathlib.Core.List.{List, []}
 use native.Mathlib.Omega.{arith}
 use lib.Dec.{eqb, ltb}
@@ -21,7 +21,7 @@ use Rattle.chains.proofs.WithinLaws.{finished-asked}
 use Rattle.text.specs.Messages.{dropped_line, head_of, message_line, sort_name}
 use Rattle.text.proofs.LineLaws.{few}
 use Rattle.text.proofs.MessageLaws.{dropped-length, head-most, message-length}
-use Rattle.gather.specs.Gather.{Held, bytes_of, collected_at, line_after, line_at, longest}
+use Rattle.gather.specs.Gather.{Held, bytes_of, collected_at, line_at, line_by, longest}
 
 -- a finished chain has no more bytes than its part
 pub finished-short : (cs : List Chain) (b s : List ℕ) → (report_of cs b s).answer ≡ sent
@@ -51,23 +51,21 @@ drops-few a h =
     (λ f. by_bool (eqb a too_long) (λ g. omega (arith, eqb-true a too_long g)) (λ g. not-both (rw (e, f, g) at h))))
 
 -- the line of a call by its answer
-module _ (before : List Chain) (r : Collected) (b : List ℕ) where
-  pub finished-line : r.answer ≡ sent → line_after before r b ≡ message_line r.chain (bytes_of r b)
-  unfolding line_after
+module _ (dropped : Bool) (r : Collected) (b : List ℕ) where
+  pub finished-line : r.answer ≡ sent → line_by dropped r b ≡ message_line r.chain (bytes_of r b)
+  unfolding line_by
   finished-line e = rw (eq-eqb r.answer sent e)
 
-  pub dropped_line_lem : (r.answer ≡ sent → ⊥) → (open_at before r.chain && drops r.answer) ≡ true
-      → line_after before r b ≡ dropped_line r.answer r.chain
-  unfolding line_after
+  pub dropped_line_lem : (r.answer ≡ sent → ⊥) → dropped ≡ true → line_by dropped r b ≡ dropped_line r.answer r.chain
+  unfolding line_by
   dropped_line_lem n e = rw (ne_eqb r.answer sent n, e)
 
-  pub no_line : (r.answer ≡ sent → ⊥) → (open_at before r.chain && drops r.answer) ≡ false
-      → line_after before r b ≡ []
-  unfolding line_after
+  pub no_line : (r.answer ≡ sent → ⊥) → dropped ≡ false → line_by dropped r b ≡ []
+  unfolding line_by
   no_line n e = rw (ne_eqb r.answer sent n, e)
 
 pub line-short : (h : Held) (s : List ℕ) → length (line_at h s) ≤ longest (length h.buffer)
-unfolding line_after
+unfolding line_by
 line-short h s =
     choose Short (eqb r.answer sent) finishes
     (λ _. choose Short (open_at h.chains r.chain && drops r.answer) dropping (λ _. omega arith))

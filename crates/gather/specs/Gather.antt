@@ -1,6 +1,6 @@
 -- Whole messages as lines (RULES 14.5; 02 M-106): a call of the collector for each packet, and the line of the message
 -- that it finishes or of the open chain that it drops.
-use Rattle.std.specs.Prelude.{ℕ, ◌+◌, ◌*◌, ◌-◌, ◌/◌, cond, ◌&&◌, List, [], eqb, ltb, drop, length, take}
+use Rattle.std.specs.Prelude.{ℕ, ◌+◌, ◌*◌, ◌-◌, ◌/◌, Bool, cond, ◌&&◌, List, [], eqb, ltb, drop, length, take}
 use Rattle.ump.specs.Packet.{cut, packet}
 use Rattle.stream.specs.declared.Done.{Done}
 use Rattle.stream.specs.Answers.{cut_packet, no_room, sent}
@@ -13,7 +13,7 @@ use Rattle.chains.specs.Collect.{buffer_of, chains_of, report_of}
 use Rattle.chains.specs.Run.{drops, open_at}
 use Rattle.tally.specs.Tally.{counted, sort_of}
 use Rattle.text.specs.Messages.{dropped_line, message_line}
-use Rattle.gather.specs.declared.Gathered.{Gathered}
+use Rattle.gather.specs.declared.Collector.{Collector}
 
 -- What goes on from one packet to the next: the chains, how often each sort of call came, and the buffer.
 pub record Held : Type 0 where
@@ -28,11 +28,14 @@ held cs counts b = record { chains = cs; counts = counts; buffer = b }
 abbrev pub bytes_of : Collected → List ℕ → List ℕ
 bytes_of r b = take r.length (drop r.start b)
 
--- The line of a call that reports r and leaves the buffer b, from the chains before it; most calls have none.
-unfoldable pub line_after : List Chain → Collected → List ℕ → List ℕ
-line_after before r b =
-    cond (eqb r.answer sent) (message_line r.chain (bytes_of r b))
-    (cond (open_at before r.chain && drops r.answer) (dropped_line r.answer r.chain) [])
+-- The line of a call that reports r and leaves the buffer b, by whether it dropped an open chain; most calls have none.
+unfoldable pub line_by : Bool → Collected → List ℕ → List ℕ
+line_by dropped r b =
+    cond (eqb r.answer sent) (message_line r.chain (bytes_of r b)) (cond dropped (dropped_line r.answer r.chain) [])
+
+-- the same from the chains before it
+abbrev pub line_after : List Chain → Collected → List ℕ → List ℕ
+line_after before r b = line_by (open_at before r.chain && drops r.answer) r b
 
 -- a call at the packet that stands first in some words, and its line
 abbrev pub collected_at : Held → List ℕ → Collected
@@ -70,6 +73,6 @@ gather_at h ws d text = gather (length text - d.written, h) (drop d.read ws)
 abbrev pub gathered_after : {T : Type 0} → Done → List ℕ → Call T → Done
 gathered_after d p c = counting (answer_of c) (d.read + read_of p c) (d.written + length (sent_of c))
 
--- what is held of a report and a buffer
-abbrev pub held_in : Gathered → List ℕ → Held
-held_in g b = held g.chains g.counts b
+-- what is held of a collector and a buffer
+abbrev pub held_in : Collector → List ℕ → Held
+held_in c b = held c.chains c.counts b

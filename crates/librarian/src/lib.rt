@@ -7,7 +7,7 @@
 #![tactic(auto)]
 
 use chains::{CHAINS, Chain};
-use gather::{gather_some, is_open};
+use gather::{Collector, gather_some, is_open};
 use notice::Ending;
 pub use ports::Streams;
 use start::Takes;
@@ -55,12 +55,12 @@ fn turn<R: Read, W: Write, E: Write>(
     let n = wire::words_of(&bytes[..have], words);
     let chains = s.chains;
     let counts = s.counts;
-    let gathered = gather_some(chains, counts, buffer, &words[..n], text);
-    let done = gathered.done;
+    let mut collector = Collector { chains, counts };
+    let done = gather_some(&mut collector, buffer, &words[..n], text);
     let failed = streams.write_fails(b"standard output", text, done.written);
     let left = wire::carry(bytes, 4 * done.read, have);
-    let chains = gathered.chains;
-    let counts = gathered.counts;
+    let chains = collector.chains;
+    let counts = collector.counts;
     LibrarianState {
         chains,
         counts,
@@ -104,7 +104,7 @@ fn is_any_open(chains: [Chain; CHAINS]) -> bool {
     let mut any = false;
     let mut i: usize = 0;
     while i < CHAINS {
-        any = any | is_open(chains, i);
+        any = any | is_open(&chains, i);
         i += 1;
     }
     any

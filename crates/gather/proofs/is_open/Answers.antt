@@ -8,6 +8,6 @@ pub returns-then-chain-lt-CHAINS : goal.returns-then-chain-lt-CHAINS
 unfolding open_at
 returns-then-chain-lt-CHAINS c = rw (lt-ltb c.args.chain 32 c.if-chain-lt-CHAINS.true) refl
 
-pub returns : goal.returns
+pub returns-else-chain-lt-CHAINS : goal.returns-else-chain-lt-CHAINS
 unfolding open_at
-returns c = rw (le-ltb c.args.chain 32 c.if-chain-lt-CHAINS.false) refl
+returns-else-chain-lt-CHAINS c = rw (le-ltb c.args.chain 32 c.if-chain-lt-CHAINS.false) refl

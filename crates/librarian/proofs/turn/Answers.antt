@@ -7,6 +7,6 @@ pub overflow_mul-done : goal.overflow_mul-done
 overflow_mul-done _ c =
     omega (
       arith,
-      run-read _ _ _ _ c.gather_some-gathered.ensures.report,
+      run-read _ _ _ _ c.gather_some-done.ensures.report,
       length-take c.words_of-n.result c.words_of-n.new.words,
     )
