@@ -7,7 +7,7 @@ ghost use Rattle.stream.specs.Report.{further, reported};
 ghost use Rattle.rescuing.specs.Rescue.{handed, run_keep};
 ghost use Rattle.rescuing.specs.Rescue;
 
-use reader::packet_from;
+use reader::packets_from;
 use recording::is_kept;
 use stream::{CUT, Done, NO_ROOM, SENT, report};
 
@@ -39,10 +39,9 @@ fn keep_next(words: &[u32], past: Done, out: &mut [u32]) -> Done
         (drop past.read words.now))) out.old }
 {
     let read = past.read;
-    let packet = packet_from(words, read);
-    if packet.len() == 0 {
+    let Some(packet) = packets_from(words, read).next() else {
         return report(CUT, read, past.written);
-    }
+    };
     if is_kept(packet) {
         keep(packet, past, out)
     } else {

@@ -10,7 +10,7 @@ ghost use Rattle.recording.specs.Recording.{cut_line, left_line, line_of, past_a
 ghost use Rattle.rescuing.specs.Rescue.{run_tell, tell, turn_of};
 
 use crate::Told;
-use reader::packet_from;
+use reader::packets_from;
 use recording::{Line, Past};
 use stream::{CUT, Done, NO_ROOM, SENT, report};
 
@@ -73,11 +73,10 @@ fn tell_next(words: &[u32], told: Told, text: &mut [u8]) -> Told
         (sent_of (within tell (length text.old - told.done.written, told.past)
         (drop told.done.read words.now))) text.old }
 {
-    let packet = packet_from(words, told.done.read);
-    if packet.len() == 0 {
-        return stays(told, CUT);
+    match packets_from(words, told.done.read).next() {
+        Some(packet) => tell_packet(packet, told, text),
+        None => stays(told, CUT),
     }
-    tell_packet(packet, told, text)
 }
 
 // What is said of the packets of the words, after what went before them, until one stops the run.

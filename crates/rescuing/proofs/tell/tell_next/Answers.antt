@@ -1,36 +1,28 @@
 -- `rescuing::tell::tell_next`: a cut packet stops, and any other is told.
-use mathlib.Core.Path.{ap, ◌∙◌}
-use native.Mathlib.Omega.{arith}
-use lib.ListN.{drop, length, length-drop}
+use Rattle.std.proofs.Common.{◌≡◌, [], drop, length, ap, ◌∙◌, arith}
 use borrow.Author.Tests.{ne_eqb}
-use Rattle.ump.proofs.PacketLaws.{packet-length}
+use Rattle.ump.specs.Packet.{packet}
 use Rattle.stream.specs.Call.{within}
 use Rattle.recording.specs.Recording.{line_of, past_after, text_of}
 use Rattle.rescuing.specs.Rescue.{tell}
 use Rattle.rescuing.proofs.RowLaws.{told-cut}
 use Rattle.rescuing.proofs.tell.tell_next.Goals as goal
 
-pub returns-then-packet-eq0 : goal.returns-then-packet-eq0
+pub returns-in-Some : goal.returns-in-Some
 unfolding tell within
-returns-then-packet-eq0 c =
-    let a = c.args in
-    let q = c.packet_from-packet.result.now in
-    let z = told-cut a.told q (text_of (line_of a.told.past q)) a.text.now (past_after a.told.past q)
-    c.if-packet-eq0.true in
-    rw (← c.packet_from-packet.ensures) record {
-      turn = c.stays.ensures ∙ z.0;
-      text = z.1;
-    }
+returns-in-Some c =
+    let q = c.in-Some.packet.now in
+    let is : q ≡ packet (drop c.args.told.done.read c.args.words.now) =
+    rw c.packets_from.ensures at c.in-Some.ensures.steps.1.0 in
+    let some : length q ≡ 0 → ⊥ = λ e. omega (arith, e, c.in-Some.ensures.steps.1.1) in
+    rw (← is, ne_eqb (length q) 0 some) c.tell_packet.ensures
 
-pub tell_packet-requires : goal.tell_packet-requires
-tell_packet-requires c =
-    let a = c.args in
-    let s = drop a.told.done.read a.words.now in
-    let e = ap length c.packet_from-packet.ensures in
-    omega (arith, c.if-packet-eq0.false, e, packet-length s, length-drop a.told.done.read a.words.now)
-
-pub returns : goal.returns
+pub returns-in-None : goal.returns-in-None
 unfolding tell within
-returns c =
-    let q = c.packet_from-packet.result.now in
-    rw (← c.packet_from-packet.ensures, ne_eqb (length q) 0 c.if-packet-eq0.false) c.tell_packet.ensures
+returns-in-None c =
+    let a = c.args in
+    let p = packet (drop a.told.done.read a.words.now) in
+    let none : p ≡ [] = rw c.packets_from.ensures at c.in-None.ensures.steps.1 in
+    let z = told-cut a.told p (text_of (line_of a.told.past p)) a.text.now (past_after a.told.past p)
+    (ap length none) in
+    record { turn = c.stays.ensures ∙ z.0; text = z.1 }
