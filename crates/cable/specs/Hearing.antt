@@ -1,9 +1,11 @@
 -- What one byte does to a cable, before room is asked for (RULES 12.2; 01 "Layouts and rules for later parts", cable
 -- bytes; 02 M-100).
-use Rattle.std.specs.Prelude.{ℕ, cond, ◌||◌, List, [], ◌∷◌, eqb, leb, ltb, get_or, length}
+use Rattle.std.specs.Prelude.{ℕ, cond, ◌||◌, List, [], ◌∷◌, eqb, leb, ltb}
 use Rattle.stream.specs.Answers.{cut_off, dropped, sent, taken_in}
 use Rattle.cable.specs.declared.Cable.{Cable}
 use Rattle.cable.specs.declared.Heard.{Heard}
+use Rattle.cable.specs.declared.Words.{Words}
+use Rattle.cable.specs.declared.Words.TheVariants.{Nothing, One, Two}
 use Rattle.cable.specs.State.{exclusive, held_at, holding, idle, message_word, need, packet_of, pick, pushed}
 
 -- What a call comes to: its answer, how many bytes it reads, the words of the packet that it sends, if any, and the
@@ -92,14 +94,11 @@ byte_in s g b =
     (pick (ltb b 0x80) (data_in s g b)
     (pick (eqb s.status 0) (status_in g b) (pick (eqb s.status 0xF0) (end_in s g b) (short_in s))))
 
--- the same as the code tells it, with the words by their values
-abbrev pub told : Call → Heard
-told c =
-    record {
-      answer = c.answer;
-      read = c.read;
-      count = length c.sends;
-      first = get_or c.sends 0 0;
-      second = get_or c.sends 1 0;
-      after = c.after;
-    }
+-- the words that the code tells, and the call that it tells with them
+abbrev pub words_of : Words → List ℕ
+words_of Nothing = []
+words_of (One w) = w ∷ []
+words_of (Two w v) = w ∷ v ∷ []
+
+abbrev pub told : Heard Cable → Call
+told h = record { answer = h.answer; read = h.read; sends = words_of h.sends; after = h.after }

@@ -3,7 +3,6 @@
 use Rattle.std.specs.Prelude.{ℕ, ◌/◌, ◌%◌, ◌^◌, List, [], ◌∷◌}
 use Rattle.cable.specs.declared.Cable.{Cable}
 use Rattle.cable.specs.declared.Heard.{Heard}
-use Rattle.cable.specs.declared.Received.{Received}
 use Rattle.cable.specs.declared.Receiver.{Receiver}
 
 -- the six bytes of two numbers
@@ -27,13 +26,5 @@ cable_of r =
       held = bytes_of r.high r.low;
     }
 
-abbrev pub heard_of : Received → Heard
-heard_of r =
-    record {
-      answer = r.answer;
-      read = r.read;
-      count = r.count;
-      first = r.first;
-      second = r.second;
-      after = cable_of r.after;
-    }
+abbrev pub heard_of : Heard Receiver → Heard Cable
+heard_of r = record { answer = r.answer; read = r.read; sends = r.sends; after = cable_of r.after }

@@ -11,8 +11,7 @@ mod receiving;
 mod state;
 
 pub use hearing::{hear, needed, receive};
-pub use receiving::{cable_of, receiver_of};
-pub use state::{chosen, idle, is_sound};
+pub use state::{idle, is_sound};
 
 // The status byte of an exclusive, and the byte that ends it.
 pub const EXCLUSIVE: u8 = 0xF0;
@@ -23,6 +22,7 @@ pub const END_OF_EXCLUSIVE: u8 = 0xF7;
 pub const SIX: u8 = 6;
 
 // What is remembered of a cable: plain numbers, which a caller may keep and lend again.
+// Kept: the C interface has its six bytes with their count beside them, and numbers for what is open.
 #[repr(C)]
 #[derive(Clone, Copy)]
 pub struct Cable {
@@ -39,6 +39,7 @@ pub struct Cable {
 
 // The same while bytes are heard: the first two held bytes stand in `high` and the other four in `low`,
 // as in the two words of the packet that they become.
+// Kept: `begun` is a number, since a cable that is not sound comes back from a real time byte as it was.
 #[derive(Clone, Copy)]
 pub struct Receiver {
     pub running: u8,
@@ -49,24 +50,19 @@ pub struct Receiver {
     pub low: u32,
 }
 
-// What a byte comes to, before room is asked for: up to two words.
-#[derive(Drop)]
-pub struct Heard {
-    pub answer: u32,
-    pub read: usize,
-    pub count: usize,
-    pub first: u32,
-    pub second: u32,
-    pub after: Cable,
+// The words that a byte sends: none, that of a message, or the two of a packet of an exclusive.
+#[derive(Clone, Copy)]
+pub enum Words {
+    Nothing,
+    One(u32),
+    Two(u32, u32),
 }
 
-// The same of a receiver.
-#[derive(Drop)]
-pub struct Received {
+// What a byte comes to, before room is asked for, with what is remembered after it: a cable or a receiver.
+#[derive(Clone, Copy)]
+pub struct Heard<S> {
     pub answer: u32,
     pub read: usize,
-    pub count: usize,
-    pub first: u32,
-    pub second: u32,
-    pub after: Receiver,
+    pub sends: Words,
+    pub after: S,
 }

@@ -1,17 +1,10 @@
 // The state of a cable.
-ghost use Rattle.std.specs.Prelude.{◌≡◌, cond, ◌≤◌};
+ghost use Rattle.std.specs.Prelude.{◌≡◌, ◌≤◌};
 ghost use Rattle.cable.specs.State.{slot, sound, sound_held, voice_byte};
 ghost use Rattle.cable.specs.State;
 
 use crate::hearing::needed;
 use crate::{Cable, EXCLUSIVE, SIX};
-
-// One of two by a test.
-pub fn chosen(test: bool, x: u8, y: u8) -> u8
-    ensures { result ≡ cond test x y }
-{
-    if test { x } else { y }
-}
 
 // A status byte of a channel voice message.
 fn is_voice(b: u8) -> bool
@@ -37,7 +30,8 @@ pub fn idle() -> Cable
 fn is_slot(n: u8, k: u8, x: u8) -> bool
     ensures { result ≡ slot n k x }
 {
-    x <= chosen(k < n, 127, 0)
+    let most = if k < n { 127 } else { 0 };
+    x <= most
 }
 
 // Whether the six places have data bytes where bytes are held, and 0 behind them.
@@ -61,6 +55,7 @@ fn is_held_short(s: Cable) -> bool
 }
 
 // Whether the numbers of a cable fit together.
+#[inline(always)]
 pub fn is_sound(s: Cable) -> bool
     ensures { result ≡ sound s }
 {

@@ -8,8 +8,7 @@ use lib.ListN.{drop, drop_of_length-le, get_or, length, length-append, replicate
 use borrow.Author.Tests.{le-leb, lt-leb}
 use Rattle.cable.specs.declared.Cable.{Cable}
 use Rattle.cable.specs.State.{pick}
-use Rattle.cable.specs.declared.Heard.{Heard}
-use Rattle.cable.specs.Hearing.{Call, byte_in, told}
+use Rattle.cable.specs.Hearing.{Call, byte_in}
 use Rattle.inlet.specs.Inlet.{calls_in}
 use Rattle.inlet.proofs.RunLaws.{at_byte, less, opened, opened-most}
 use Rattle.tally.specs.Tally.{all_sorts, counted, tally}
@@ -66,10 +65,10 @@ module _ (g : ℕ) (s₀ : Cable) (a : List ℕ) (room₀ : ℕ) where
           are = rw v.are (tally-counted v.before c.answer (omega (arith, v.few)));
         }
 
-    -- after one more call: it is over, or the invariant holds again and less is left to do
-    pub turn : (x : Heard) → x ≡ told c
-        → (room < x.count → counts ≡ tally whole)
-        × (x.count ≤ room → length a < 2 ^ 63
-        → Counts (counted counts x.answer) x.after (i + x.read) (room - x.count)
+    -- after one more call, which sends n words: it is over, or the invariant holds again and less is left to do
+    pub turn : (x : Call) → x ≡ c → (n : ℕ) → n ≡ length x.sends
+        → (room < n → counts ≡ tally whole)
+        × (n ≤ room → length a < 2 ^ 63
+        → Counts (counted counts x.answer) x.after (i + x.read) (room - n)
         × (2 * (length a - (i + x.read)) + opened x.after < 2 * (length a - i) + opened s))
-    turn x e = rw e (stop, λ t fits. (more t fits, (less g a s i h).0))
+    turn x e n f = rw (f, e) (stop, λ t fits. (more t fits, (less g a s i h).0))

@@ -9,12 +9,13 @@
 ghost use Rattle.std.specs.Prelude.{◌≡◌, length, take};
 ghost use Rattle.ground.specs.Store.{at_start};
 ghost use Rattle.stream.specs.Report;
+ghost use Rattle.cable.specs.Hearing.{words_of};
 ghost use Rattle.tally.specs.Tally.{tally, tally_out};
 ghost use Rattle.inlet.specs.Inlet.{calls_in, reported, run_in};
 ghost use Rattle.outlet.specs.Outlet.{run_out};
 ghost use Rattle.cableflow.specs.Answers.{answers_in, answers_of};
 
-use cable::{Cable, hear, is_sound};
+use cable::{Cable, Words, hear, is_sound};
 use inlet::{Imported, run_import};
 use outlet::run_export;
 use stream::Done;
@@ -34,6 +35,17 @@ pub struct ExportedAndCounts {
     pub counts: [u64; SORTS],
 }
 
+// How many words a byte sends.
+fn length_of(words: Words) -> usize
+    ensures { result ≡ length (words_of words) }
+{
+    match words {
+        Words::Nothing => 0,
+        Words::One(_) => 1,
+        Words::Two(_, _) => 2,
+    }
+}
+
 // How often each answer comes among the calls at the bytes of a sound cable, up to one whose packet finds
 // no room. They are heard once more, and their packets go nowhere.
 fn counts_in(cable: Cable, group: u8, bytes: &[u8], room: usize) -> [u64; SORTS]
@@ -45,13 +57,14 @@ fn counts_in(cable: Cable, group: u8, bytes: &[u8], room: usize) -> [u64; SORTS]
     let mut left = room;
     while at < bytes.len() {
         let heard = hear(state, group, bytes[at]);
-        if left < heard.count {
+        let needs = length_of(heard.sends);
+        if left < needs {
             return counts;
         }
-        let more = one_more(counts, heard.answer as u64);
+        let more = one_more(counts, u64::from(heard.answer));
         counts = more;
         at += heard.read;
-        left -= heard.count;
+        left -= needs;
         let after = heard.after;
         state = after;
     }

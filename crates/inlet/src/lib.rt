@@ -5,19 +5,19 @@
 // reads and writes, which state it leaves and what the output holds after, on every input.
 #![tactic(auto)]
 
-ghost use Rattle.std.specs.Prelude.{◌≡◌, cond, [], ◌∷◌, ◌-◌, ◌≤◌, length, take};
-ghost use Rattle.stream.specs.Answers.{cut_packet, sent};
-ghost use Rattle.ground.specs.Store.{at_start, written};
-ghost use Rattle.cable.specs.Put.{Put};
-ghost use Rattle.cable.specs.Hearing.{byte_in, unread};
+ghost use Rattle.std.specs.Prelude.{◌≡◌, [], ◌≤◌, length};
+ghost use Rattle.ground.specs.Store.{at_start};
+ghost use Rattle.cable.specs.Put.{Puts};
+ghost use Rattle.cable.specs.Hearing.{unread, words_of};
 ghost use Rattle.cable.specs.Receiver.{cable_of};
 ghost use Rattle.inlet.specs.Inlet.{calls_in, fit_in, next_in, one_in, ran_in, reported, run_in, took};
-ghost use Rattle.inlet.specs.Taking.{Makes, imported_of};
+ghost use Rattle.inlet.specs.Taking.{refusal};
 
-use cable::{Cable, Receiver, cable_of, is_sound, receive, receiver_of};
+use cable::{Cable, Receiver, Words, hear, is_sound, receive};
 use stream::{CUT, NO_ROOM, NOT_SOUND, OUT_OF_RANGE, SENT};
 
 // What an import answers, the bytes that it read, the words that it wrote, and the cable after it.
+// Kept: the C interface has the answer as a number.
 #[repr(C)]
 #[derive(Clone, Copy)]
 pub struct Imported {
@@ -25,15 +25,6 @@ pub struct Imported {
     pub read: usize,
     pub written: usize,
     pub after: Cable,
-}
-
-// The same of one call of a run.
-#[derive(Clone, Copy)]
-struct Taken {
-    answer: u32,
-    read: usize,
-    written: usize,
-    after: Receiver,
 }
 
 // Nothing is read or written, and the cable stays.
@@ -56,105 +47,96 @@ fn report(answer: u32, read: usize, written: usize, state: Receiver) -> Imported
         answer,
         read,
         written,
-        after: cable_of(state),
+        after: Cable::from(state),
     }
 }
 
-// Stores up to two words from a place on and answers true, or, where they do not fit, stores nothing
-// and answers false.
-fn put(out: &mut [u32], to: usize, count: usize, w: u32, v: u32) -> bool
-    requires { (count ≤ 2) × (to ≤ length out.old) }
-    ensures { Put (take count (w ∷ v ∷ [])) to out.old result out.new }
+// The answer that refuses a group or a cable, before a byte is asked for.
+#[tactic(auto, unfolding(crate::specs::Taking::refusal, cable::specs::State::pick))]
+#[inline(always)]
+fn refusal(group: u8, cable: Cable) -> Option<u32>
+    ensures { result ≡ refusal group cable }
 {
-    if count == 0 {
-        return true;
+    if 15 < group {
+        return Some(OUT_OF_RANGE);
     }
-    if out.len() - to < count {
-        return false;
+    if is_sound(cable) {
+        None
+    } else {
+        Some(NOT_SOUND)
     }
-    out[to] = w;
-    if count == 2 {
-        out[to + 1] = v;
-    }
-    true
 }
 
-// One byte of a cable, its packet into the output from a place on.
-fn take_byte(state: Receiver, group: u8, byte: u8, out: &mut [u32], to: usize) -> Taken
+// Stores the words of a byte from a place on, and says which place is behind them. Where they do not fit,
+// nothing is stored.
+fn put(words: Words, out: &mut [u32], to: usize) -> Option<usize>
     requires { to ≤ length out.old }
-    ensures report { imported_of result
-        ≡ took (fit_in (length out.old - to) (cable_of state) (byte_in (cable_of state) group byte)) }
-    ensures output { out.new ≡ written to
-        (fit_in (length out.old - to) (cable_of state) (byte_in (cable_of state) group byte)).sends
-        out.old }
+    ensures { Puts (words_of words) to out.old result out.new }
 {
-    let heard = receive(state, group, byte);
-    let after = heard.after;
-    if put(out, to, heard.count, heard.first, heard.second) {
-        Taken {
+    let room = out.len() - to;
+    match words {
+        Words::Nothing => Some(to),
+        Words::One(word) => {
+            if room < 1 {
+                return None;
+            }
+            out[to] = word;
+            Some(to + 1)
+        }
+        Words::Two(first, second) => {
+            if room < 2 {
+                return None;
+            }
+            out[to] = first;
+            out[to + 1] = second;
+            Some(to + 2)
+        }
+    }
+}
+
+// One call of a sound cable: the byte at the start of the bytes.
+fn import_first(cable: Cable, group: u8, bytes: &[u8], out: &mut [u32]) -> Imported
+    ensures report { result
+        ≡ took (fit_in (length out.old) cable (next_in cable group bytes.now)) }
+    ensures output { out.new ≡ at_start
+        (fit_in (length out.old) cable (next_in cable group bytes.now)).sends out.old }
+{
+    if bytes.len() == 0 {
+        return refused(CUT, cable);
+    }
+    let heard = hear(cable, group, bytes[0]);
+    match put(heard.sends, out, 0) {
+        Some(written) => Imported {
             answer: heard.answer,
             read: heard.read,
-            written: heard.count,
-            after,
-        }
-    } else {
-        Taken {
-            answer: NO_ROOM,
-            read: 0,
-            written: 0,
-            after: state,
-        }
+            written,
+            after: heard.after,
+        },
+        None => refused(NO_ROOM, cable),
     }
 }
 
-// The answer where no byte is left: 3 of one call, and of a run that it came to its end.
-fn ended(once: bool) -> u32
-    ensures { result ≡ cond once cut_packet sent }
+// A run of a sound cable: call after call, until no byte is left or a packet has no room.
+fn import_all(cable: Cable, group: u8, bytes: &[u8], out: &mut [u32]) -> Imported
+    ensures report { result
+        ≡ reported (ran_in (length out.old) cable (calls_in group cable bytes.now)) }
+    ensures output { out.new ≡ at_start
+        (ran_in (length out.old) cable (calls_in group cable bytes.now)).sends out.old }
 {
-    if once { CUT } else { SENT }
-}
-
-// Call after call, until no byte is left or a packet has no room; or one call only, at the first byte.
-fn take_all(first: Receiver, group: u8, bytes: &[u8], out: &mut [u32], once: bool) -> Imported
-    ensures { Makes once
-        (fit_in (length out.old) (cable_of first) (next_in (cable_of first) group bytes.now))
-        (ran_in (length out.old) (cable_of first) (calls_in group (cable_of first) bytes.now))
-        result out.old out.new }
-{
-    let mut state = first;
+    let mut state = Receiver::from(cable);
     let mut read: usize = 0;
     let mut written: usize = 0;
     while read < bytes.len() {
-        let one = take_byte(state, group, bytes[read], out, written);
-        if one.answer == NO_ROOM {
+        let heard = receive(state, group, bytes[read]);
+        let Some(end) = put(heard.sends, out, written) else {
             return report(NO_ROOM, read, written, state);
-        }
-        read += one.read;
-        written += one.written;
-        let after = one.after;
+        };
+        read += heard.read;
+        written = end;
+        let after = heard.after;
         state = after;
-        if once {
-            return report(one.answer, read, written, state);
-        }
     }
-    report(ended(once), read, written, state)
-}
-
-// A call or a run: the group and the cable are asked for first.
-fn take_from(cable: Cable, group: u8, bytes: &[u8], out: &mut [u32], once: bool) -> Imported
-    ensures { Makes once
-        (one_in group (length out.old) cable bytes.now)
-        (run_in group (length out.old) cable bytes.now)
-        result out.old out.new }
-{
-    if 15 < group {
-        return refused(OUT_OF_RANGE, cable);
-    }
-    if is_sound(cable) {
-        take_all(receiver_of(cable), group, bytes, out, once)
-    } else {
-        refused(NOT_SOUND, cable)
-    }
+    report(SENT, read, written, state)
 }
 
 // One call: the byte at the start of the bytes.
@@ -164,7 +146,10 @@ pub fn import(cable: Cable, group: u8, bytes: &[u8], out: &mut [u32]) -> Importe
     ensures output { out.new ≡ at_start
         (one_in group (length out.old) cable bytes.now).sends out.old }
 {
-    take_from(cable, group, bytes, out, true)
+    match refusal(group, cable) {
+        Some(answer) => refused(answer, cable),
+        None => import_first(cable, group, bytes, out),
+    }
 }
 
 // A run: every byte. A message that is open at the end stays in the cable.
@@ -174,5 +159,8 @@ pub fn run_import(cable: Cable, group: u8, bytes: &[u8], out: &mut [u32]) -> Imp
     ensures output { out.new ≡ at_start
         (run_in group (length out.old) cable bytes.now).sends out.old }
 {
-    take_from(cable, group, bytes, out, false)
+    match refusal(group, cable) {
+        Some(answer) => refused(answer, cable),
+        None => import_all(cable, group, bytes, out),
+    }
 }

@@ -3,18 +3,19 @@
 use Prim.Native.Nat.{◌^◌, ◌<◌}
 use native.Mathlib.Omega.{arith}
 use lib.ListN.{length}
+use Rattle.cable.specs.Hearing.{told}
 use Rattle.cableflow.proofs.CountLaws.{finish, start, turn}
 use Rattle.cableflow.proofs.counts_in.Goals as goal
 
 pub loop-at-init : goal.loop-at-init
 loop-at-init c = start _ _ _ _
 
-pub returns-then-left-heard : goal.returns-then-left-heard
-returns-then-left-heard c =
+pub returns-then-left-needs : goal.returns-then-left-needs
+returns-then-left-needs c =
     let l = c.loop-at in
     let a = c.args in
     (turn a.group a.cable a.bytes.now a.room l.counts l.state l.at l.left l.invariant
-    c.loop-at-test.true c.hear-heard.result c.hear-heard.ensures).0 c.if-left-heard.true
+    c.loop-at-test.true (told c.hear-heard.result) c.hear-heard.ensures _ c.length_of-needs.ensures).0 c.if-left-needs.true
 
 pub overflow_add-at : goal.overflow_add-at
 overflow_add-at c =
@@ -22,7 +23,7 @@ overflow_add-at c =
     let a = c.args in
     let fits : length a.bytes.now < 2 ^ 63 = omega (arith, c.well_formed) in
     let z = (turn a.group a.cable a.bytes.now a.room l.counts l.state l.at l.left l.invariant
-    c.loop-at-test.true c.hear-heard.result c.hear-heard.ensures).1 c.if-left-heard.false fits in
+    c.loop-at-test.true (told c.hear-heard.result) c.hear-heard.ensures _ c.length_of-needs.ensures).1 c.if-left-needs.false fits in
     omega (arith, z.0.read)
 
 pub loop-at-smaller : goal.loop-at-smaller
@@ -31,16 +32,16 @@ loop-at-smaller c =
     let a = c.args in
     let fits : length a.bytes.now < 2 ^ 63 = omega (arith, c.well_formed) in
     ((turn a.group a.cable a.bytes.now a.room l.counts l.state l.at l.left l.invariant
-    c.loop-at-test.true c.hear-heard.result c.hear-heard.ensures).1 c.if-left-heard.false fits).1
+    c.loop-at-test.true (told c.hear-heard.result) c.hear-heard.ensures _ c.length_of-needs.ensures).1 c.if-left-needs.false fits).1
 
 pub loop-at-preserved : goal.loop-at-preserved
 loop-at-preserved c =
     let l = c.loop-at in
     let a = c.args in
     let fits : length a.bytes.now < 2 ^ 63 = omega (arith, c.well_formed) in
-    rw c.one_more-more.ensures
+    rw (c.one_more-more.ensures, c.from.ensures)
     ((turn a.group a.cable a.bytes.now a.room l.counts l.state l.at l.left l.invariant
-    c.loop-at-test.true c.hear-heard.result c.hear-heard.ensures).1 c.if-left-heard.false fits).0
+    c.loop-at-test.true (told c.hear-heard.result) c.hear-heard.ensures _ c.length_of-needs.ensures).1 c.if-left-needs.false fits).0
 
 pub returns : goal.returns
 returns c =
