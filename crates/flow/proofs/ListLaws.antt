@@ -21,7 +21,7 @@ use Rattle.stream.proofs.RunLoop.{Inside}
 use Rattle.screen.specs.Screen.{open_rule, screen_by, screened}
 use Rattle.channel.specs.declared.Record.{Record}
 use Rattle.channel.specs.Record.{empty, sound, whole_table}
-use Rattle.flow.specs.declared.RecordAndReport.{RecordAndReport}
+use Rattle.flow.specs.declared.AfterAndReport.{AfterAndReport}
 use Rattle.effect.specs.Effect.{effected}
 use Rattle.ump.specs.Word.{data1}
 use Rattle.voice.specs.declared.EffectAndReport.{EffectAndReport}
@@ -38,16 +38,16 @@ use Rattle.flow.specs.Listing.{line_up, list_up, listed, record_turned}
 abbrev pub four₀ : List ℕ
 four₀ = replicate 4 0
 
-module _ (d : Done) (p text : List ℕ) (r : Record) (x : RecordAndReport) (four : List ℕ) where
+module _ (d : Done) (p text : List ℕ) (r : Record) (x : AfterAndReport Record) (four : List ℕ) where
   -- what the call c at the packet p says of itself and of the four words, and what its line then makes of the text
   abbrev pub Calls : Call Record → Type 0
   Calls c = (x ≡ record_turned (counting sent d.read 0) p four₀ r c) ×
       (four ≡ output_of (counting sent d.read 0) four₀ c)
 
-  abbrev pub Lists : Call Record → RecordAndReport → List ℕ → Type 0
+  abbrev pub Lists : Call Record → AfterAndReport Record → List ℕ → Type 0
   Lists c y text' = (y ≡ record_turned d p text r (listed p c)) × (text' ≡ output_of d text (listed p c))
 
-  abbrev pub Told : ℕ → RecordAndReport
+  abbrev pub Told : ℕ → AfterAndReport Record
   Told n = record { after = x.after; done = placing x.done.answer x.done.place x.done.read n }
 
   -- what is then told: no room for the line, or the place after it
@@ -78,7 +78,7 @@ module _ (d : Done) (p text : List ℕ) (r : Record) (x : RecordAndReport) (four
       → x.done.read ≡ d.read → Lists c (Told d.written) text
   line-none (stopped a) f z e h = (rw (e.0, add-zero d.written), sym (written_none d.written text))
   line-none (went a ws v) f z e h =
-      let g = ap (λ (y : RecordAndReport). y.done.read) (went-four a ws v f e).0 in
+      let g = ap (λ (y : AfterAndReport Record). y.done.read) (went-four a ws v f e).0 in
       let k : length p ≡ 0 = omega arith in
       let q = z k in
       absurd (let y : ◌≡◌ {A = ℕ} 0 1 = cc q in omega arith)
@@ -90,7 +90,7 @@ module _ (d : Done) (p text : List ℕ) (r : Record) (x : RecordAndReport) (four
       (end ≡ place_after text d.written row) × (text' ≡ with_row text d.written row)
       → Lined c end text'
   line-some (stopped a) end text' f e h l =
-      absurd (h (ap (λ (y : RecordAndReport). y.done.read) e.0 ∙ add-zero d.read))
+      absurd (h (ap (λ (y : AfterAndReport Record). y.done.read) e.0 ∙ add-zero d.read))
   line-some (went a ws v) end text' f e h l =
       let w = went-four a ws v f e in
       let n : d.read + length p - d.read ≡ length p = omega arith in
@@ -134,7 +134,7 @@ call-made d ws four r x a e f =
     (ap (λ (y : EffectAndReport). y.done) e)
 
 -- the call that the code makes after the report q
-pub calls_at : (ws : List ℕ) (d q : Done) (text : List ℕ) (r : Record) (x : RecordAndReport) (four : List ℕ)
+pub calls_at : (ws : List ℕ) (d q : Done) (text : List ℕ) (r : Record) (x : AfterAndReport Record) (four : List ℕ)
     → q ≡ counting sent d.read 0
     → (x ≡ record_turned q (next ws q) four₀ r (packet_up r (next ws q)))
     × (four ≡ output_of q four₀ (packet_up r (next ws q)))

@@ -17,7 +17,7 @@ use Rattle.stream.specs.Run.{run}
 use Rattle.stream.proofs.RunLoop.{DidRun, Inside, Runs, turn}
 use Rattle.channel.specs.declared.Record.{Record}
 use Rattle.channel.specs.Record.{empty, whole_table}
-use Rattle.flow.specs.declared.RecordAndReport.{RecordAndReport}
+use Rattle.flow.specs.declared.AfterAndReport.{AfterAndReport}
 use Rattle.voice.specs.Turn.{next, output_of}
 use Rattle.flow.specs.Listing.{record_turned}
 use Rattle.table.specs.Table.{run_by, stored, table_after}
@@ -55,14 +55,14 @@ module _
       c = fit room (act r p)
 
       -- what a call at the packet's own record makes of the run
-      abbrev pub After : RecordAndReport → List Record → List ℕ → Type 0
+      abbrev pub After : AfterAndReport Record → List Record → List ℕ → Type 0
       After x t' after =
           ((x.done.read ≡ i → ⊥) → Ups t' after x.done.read x.done.written × (i < x.done.read))
           × (x.done.read ≡ i
           → DidRun (run (within step) (length out₀, t₀)
           (cut ws)) out₀ x.done.answer x.done.read x.done.written t' after)
 
-      own_turn : (x : RecordAndReport) (t' : List Record) (after : List ℕ)
+      own_turn : (x : AfterAndReport Record) (t' : List Record) (after : List ℕ)
           → x ≡ record_turned (counting sent i n) p out r (act r p) → after
           ≡ output_of (counting sent i n) out (act r p)
           → t' ≡ set t (place_at ws i) x.after → After x t' after
@@ -71,15 +71,15 @@ module _
           let k = read_of p c in
           let m = length (sent_of c) in
           let y = with-table room t (place_at ws i) p (act r p) in
-          let er : x.done.read ≡ i + k = ap (λ (z : RecordAndReport). z.done.read) ex in
-          let ew : x.done.written ≡ n + m = ap (λ (z : RecordAndReport). z.done.written) ex in
+          let er : x.done.read ≡ i + k = ap (λ (z : AfterAndReport Record). z.done.read) ex in
+          let ew : x.done.written ≡ n + m = ap (λ (z : AfterAndReport Record). z.done.written) ex in
           let el : t' ≡ set t (place_at ws i) (left_of (room, r) c).1 = et
-          ∙ ap (λ (z : RecordAndReport). set t (place_at ws i) z.after) ex in
+          ∙ ap (λ (z : AfterAndReport Record). set t (place_at ws i) z.after) ex in
           let long : length t' ≡ whole_table = ap length et ∙ length-set t (place_at ws i) x.after ∙ inv.1 in
           let z = turn step near inside t₀ ws out₀ t out i n x.done.answer k m t' after inv.0 h
           (rw (own ws t i inv.1)
           (record {
-            answers = ap (λ (z : RecordAndReport). z.done.answer) ex ∙ sym y.0;
+            answers = ap (λ (z : AfterAndReport Record). z.done.answer) ex ∙ sym y.0;
             reads = sym y.1;
             writes = ap length (sym y.2);
             leaves = el ∙ sym y.3;
@@ -91,7 +91,7 @@ module _
           )
 
       -- the same from what the code says, which makes the call after the report q, and reads and stores the record at k
-      pub table-turn : (q : Done) (k : ℕ) (d : Record) (x : RecordAndReport) (t' : List Record) (after : List ℕ)
+      pub table-turn : (q : Done) (k : ℕ) (d : Record) (x : AfterAndReport Record) (t' : List Record) (after : List ℕ)
           → q ≡ counting sent i n → k ≡ place_at ws i → k < whole_table
           → (x ≡ record_turned q (next ws q) out (get_or t k d) (act (get_or t k d) (next ws q)))
           × (after ≡ output_of q out (act (get_or t k d) (next ws q)))

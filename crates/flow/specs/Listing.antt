@@ -10,7 +10,7 @@ use Rattle.voice.specs.Packet.{packet_up}
 use Rattle.voice.specs.Turn.{in_room, report_of}
 use Rattle.text.specs.Lines.{line_of}
 use Rattle.table.specs.Table.{run_by, table_up}
-use Rattle.flow.specs.declared.RecordAndReport.{RecordAndReport}
+use Rattle.flow.specs.declared.AfterAndReport.{AfterAndReport}
 
 -- a call at the packet p; one that stops has no line
 abbrev pub listed : {T : Type 0} → List ℕ → Call T → Call T
@@ -18,7 +18,7 @@ listed p (went a ws u) = went a (line_of a (length p) (place_told a p) ws) u
 listed p (stopped a) = stopped a
 
 -- a call with a record, after what was read and written so far: what is left of the record, and the report
-abbrev pub record_turned : Done → List ℕ → List ℕ → Record → Call Record → RecordAndReport
+abbrev pub record_turned : Done → List ℕ → List ℕ → Record → Call Record → AfterAndReport Record
 record_turned d p out r c =
     record { after = (left_of (length out - d.written, r) (in_room d out c)).1; done = report_of d p out c }
 

@@ -30,70 +30,51 @@ pub struct Table {
     pub records: [Record; RECORDS],
 }
 
-// A run up: the table after it, its report, and how often each sort of packet came, at the sort's
-// number. 0 stands for whatever was not refused.
+// What a call leaves of its record or a run of its table, and the report. Into lines it counts their bytes
+// as written.
 #[derive(Clone, Copy)]
-pub struct TableReportAndCounts {
-    pub table: Table,
+pub struct AfterAndReport<T> {
+    pub after: T,
     pub done: Done,
+}
+
+// A run, and how often each sort of packet came, at the sort's number. 0 stands for whatever was not
+// refused.
+#[derive(Clone, Copy)]
+pub struct Counted<T> {
+    pub ran: T,
     pub counts: [u64; SORTS],
-}
-
-// A run down: its report, and how often each sort came.
-#[derive(Clone, Copy)]
-pub struct ReportAndCounts {
-    pub done: Done,
-    pub counts: [u64; SORTS],
-}
-
-// A run into lines: the table after it, and the report, which counts the bytes of the lines as
-// written.
-#[derive(Clone, Copy)]
-pub struct LinesReport {
-    pub table: Table,
-    pub done: Done,
-}
-
-// A call up: the record that it leaves, and the report.
-#[derive(Clone, Copy)]
-struct RecordAndReport {
-    after: Record,
-    done: Done,
 }
 
 // The packets of the words, going up, until one stops the run.
-pub fn up_some(table: Table, words: &[u32], out: &mut [u32]) -> TableReportAndCounts
-    ensures report { result.done
+pub fn up_some(table: Table, words: &[u32], out: &mut [u32]) -> Counted<AfterAndReport<Table>>
+    ensures report { result.ran.done
         ≡ reported (run_up (length out.old) table.records words.now) }
-    ensures table { result.table.records
+    ensures table { result.ran.after.records
         ≡ table_after (run_up (length out.old) table.records words.now) }
-    ensures counts { result.counts ≡ tally_up (take result.done.read words.now) }
+    ensures counts { result.counts ≡ tally_up (take result.ran.done.read words.now) }
     ensures output { out.new ≡ at_start
         (run_up (length out.old) table.records words.now).sends out.old }
 {
-    let records = table.records;
-    let ran = run_from(records, words, out, whole_run());
-    let records = ran.records;
-    let table = Table { records };
-    let done = ran.done;
+    let run = run_from(table.records, words, out, whole_run());
+    let records = run.records;
+    let after = Table { records };
+    let done = run.done;
     let read = done.read;
     let counts = tally_of(Up, &words[..read]);
-    TableReportAndCounts {
-        table,
-        done,
-        counts,
-    }
+    let ran = AfterAndReport { after, done };
+    Counted { ran, counts }
 }
 
 // The packets of the words, going down, until one stops the run.
-pub fn down_some(words: &[u32], out: &mut [u32]) -> ReportAndCounts
-    ensures report { result.done ≡ reported (run_down (length out.old) words.now) }
-    ensures counts { result.counts ≡ tally_down (take result.done.read words.now) }
+pub fn down_some(words: &[u32], out: &mut [u32]) -> Counted<Done>
+    ensures report { result.ran ≡ reported (run_down (length out.old) words.now) }
+    ensures counts { result.counts ≡ tally_down (take result.ran.read words.now) }
     ensures output { out.new
         ≡ at_start (run_down (length out.old) words.now).sends out.old }
 {
-    let done = voice::run_down(words, out, screen::open_rule());
-    let read = done.read;
+    let ran = voice::run_down(words, out, screen::open_rule());
+    let read = ran.read;
     let counts = tally_of(Down, &words[..read]);
-    ReportAndCounts { done, counts }
+    Counted { ran, counts }
 }

@@ -9,7 +9,7 @@ ghost use Rattle.voice.specs.Turn.{next, output_of};
 ghost use Rattle.table.specs.Table.{table_after};
 ghost use Rattle.flow.specs.Listing.{line_up, record_turned, run_lines};
 
-use crate::{LinesReport, RecordAndReport, Table};
+use crate::{AfterAndReport, Table};
 use channel::Record;
 use effect::effected;
 use screen::open_rule;
@@ -24,22 +24,21 @@ fn record_place(w: u32) -> usize
 }
 
 // A call up, told of a text that is then written so far.
-fn told(turned: RecordAndReport, written: usize) -> RecordAndReport
+fn told(turned: AfterAndReport<Record>, written: usize) -> AfterAndReport<Record>
     ensures { result ≡ record {
       after = turned.after;
       done = placing turned.done.answer turned.done.place turned.done.read written;
     } }
 {
-    let after = turned.after;
     let done = turned.done;
-    RecordAndReport {
-        after,
+    AfterAndReport {
         done: report_place(done.answer, done.place, done.read, written),
+        ..turned
     }
 }
 
 // The call at the packet that is next, into four words, with the record that it leaves.
-fn called(words: &[u32], past: Done, record: Record, four: &mut [u32]) -> RecordAndReport
+fn called(words: &[u32], past: Done, record: Record, four: &mut [u32]) -> AfterAndReport<Record>
     ensures turn { result ≡ record_turned past (next words.now past) four.old «record»
         (packet_up «record» (next words.now past)) }
     ensures output { four.new
@@ -50,11 +49,11 @@ fn called(words: &[u32], past: Done, record: Record, four: &mut [u32]) -> Record
     let key = ump::data1(ump::word_at(words, past.read));
     let after = effected(record, turned.effect, memory, key);
     let done = turned.done;
-    RecordAndReport { after, done }
+    AfterAndReport { after, done }
 }
 
 // The packet that is next in the words, with its record, and its line after what was written so far.
-fn list_one(words: &[u32], past: Done, record: Record, text: &mut [u8]) -> RecordAndReport
+fn list_one(words: &[u32], past: Done, record: Record, text: &mut [u8]) -> AfterAndReport<Record>
     ensures turn { result ≡ record_turned past (next words.now past) text.old «record»
         (line_up «record» (next words.now past)) }
     ensures text { text.new
@@ -79,7 +78,7 @@ fn list_one(words: &[u32], past: Done, record: Record, text: &mut [u8]) -> Recor
     );
     if end == to {
         let done = report(NO_ROOM, read, to);
-        return RecordAndReport {
+        return AfterAndReport {
             after: record,
             done,
         };
@@ -88,10 +87,10 @@ fn list_one(words: &[u32], past: Done, record: Record, text: &mut [u8]) -> Recor
 }
 
 // The lines of the packets, going up, until one stops the run or its line has no room.
-pub fn list_some(table: Table, words: &[u32], text: &mut [u8]) -> LinesReport
+pub fn list_some(table: Table, words: &[u32], text: &mut [u8]) -> AfterAndReport<Table>
     ensures report { result.done
         ≡ reported (run_lines (length text.old) table.records words.now) }
-    ensures table { result.table.records
+    ensures table { result.after.records
         ≡ table_after (run_lines (length text.old) table.records words.now) }
     ensures lines { text.new ≡ at_start
         (run_lines (length text.old) table.records words.now).sends text.old }
@@ -106,14 +105,14 @@ pub fn list_some(table: Table, words: &[u32], text: &mut [u8]) -> LinesReport
         let done = listed.done;
         records[i] = after;
         if done.read == read {
-            let table = Table { records };
+            let after = Table { records };
             let done = report(done.answer, read, done.written);
-            return LinesReport { table, done };
+            return AfterAndReport { after, done };
         }
         read = done.read;
         written = done.written;
     }
-    let table = Table { records };
+    let after = Table { records };
     let done = report(SENT, read, written);
-    LinesReport { table, done }
+    AfterAndReport { after, done }
 }

@@ -2,7 +2,7 @@
 // came to so far.
 //
 // What a buffer comes to is said by the contracts of flow, pupil and wire. Which of them a program
-// takes is chosen here, and proved to be safe and to end: no more is read than was given, and no more
+// takes is said here, and proved to be safe and to end: no more is read than was given, and no more
 // is handed on than the text holds.
 #![tactic(auto)]
 
@@ -15,16 +15,6 @@ use stream::Done;
 use tally::SORTS;
 pub use totals::Totals;
 
-// What becomes of the packets: `Only` has a group and a channel.
-#[derive(Clone, Copy)]
-pub enum Program {
-    Lines,
-    Up,
-    Down,
-    Panel,
-    Only(u8, u8),
-}
-
 // What the packets of some words came to: the words read, and the bytes to write.
 #[derive(Clone, Copy)]
 pub struct Translated {
@@ -33,6 +23,21 @@ pub struct Translated {
     pub answer: u32,
     pub read: usize,
     pub bytes: usize,
+}
+
+// What becomes of the packets of a buffer.
+pub trait Program: Copy {
+    // The packets of the words, and what they come to at the start of the text.
+    fn translate(
+        self,
+        table: Table,
+        totals: Totals,
+        words: &[u32],
+        sent: &mut [u32],
+        text: &mut [u8],
+    ) -> Translated
+        ensures read { result.read ≤ length words.now }
+        ensures bytes { result.bytes ≤ length text.new };
 }
 
 // What a run sent, as bytes at the start of the text.
@@ -71,65 +76,107 @@ fn up_as_bytes(
     ensures read { result.read ≤ length words.now }
     ensures bytes { result.bytes ≤ length text.new }
 {
-    let ran = flow::up_some(table, words, sent);
-    let table = ran.table;
-    let counts = ran.counts;
-    sent_as_bytes(table, totals, ran.done, counts, sent, text)
+    let up = flow::up_some(table, words, sent);
+    let table = up.ran.after;
+    let done = up.ran.done;
+    sent_as_bytes(table, totals, done, up.counts, sent, text)
 }
 
-// The packets of the words that are one channel's, as bytes at the start of the text. None is refused.
-fn only_as_bytes(
-    group: u8,
-    channel: u8,
-    table: Table,
-    totals: Totals,
-    words: &[u32],
-    sent: &mut [u32],
-    text: &mut [u8],
-) -> Translated
-    ensures read { result.read ≤ length words.now }
-    ensures bytes { result.bytes ≤ length text.new }
-{
-    let done = pupil::only(words, group, channel, sent);
-    let counts = [0u64; SORTS];
-    sent_as_bytes(table, totals, done, counts, sent, text)
+// A line for each packet going up.
+#[derive(Clone, Copy)]
+pub struct Lines;
+
+#[derive(Clone, Copy)]
+pub struct Up;
+
+#[derive(Clone, Copy)]
+pub struct Down;
+
+// Up, to show the keys that are down at the end. Nothing is shown of the words sent, so their bytes have
+// no room.
+#[derive(Clone, Copy)]
+pub struct Panel;
+
+// The packets of one channel of a group. None is refused.
+#[derive(Clone, Copy)]
+pub struct Only {
+    pub group: u8,
+    pub channel: u8,
 }
 
-// The packets of the words, and what they come to at the start of the text. The panel shows none of the
-// words sent, so it leaves their bytes no room.
-pub fn translate(
-    program: Program,
-    table: Table,
-    totals: Totals,
-    words: &[u32],
-    sent: &mut [u32],
-    text: &mut [u8],
-) -> Translated
-    ensures read { result.read ≤ length words.now }
-    ensures bytes { result.bytes ≤ length text.new }
-{
-    match program {
-        Program::Lines => {
-            let lines = flow::list_some(table, words, text);
-            let table = lines.table;
-            let done = lines.done;
-            Translated {
-                table,
-                totals,
-                answer: done.answer,
-                read: done.read,
-                bytes: done.written,
-            }
+impl Program for Lines {
+    fn translate(
+        self,
+        table: Table,
+        totals: Totals,
+        words: &[u32],
+        sent: &mut [u32],
+        text: &mut [u8],
+    ) -> Translated {
+        let lines = flow::list_some(table, words, text);
+        let table = lines.after;
+        let done = lines.done;
+        Translated {
+            table,
+            totals,
+            answer: done.answer,
+            read: done.read,
+            bytes: done.written,
         }
-        Program::Up => up_as_bytes(table, totals, words, sent, text),
-        Program::Down => {
-            let ran = flow::down_some(words, sent);
-            let counts = ran.counts;
-            sent_as_bytes(table, totals, ran.done, counts, sent, text)
-        }
-        Program::Panel => up_as_bytes(table, totals, words, sent, &mut text[..0]),
-        Program::Only(group, channel) => {
-            only_as_bytes(group, channel, table, totals, words, sent, text)
-        }
+    }
+}
+
+impl Program for Up {
+    fn translate(
+        self,
+        table: Table,
+        totals: Totals,
+        words: &[u32],
+        sent: &mut [u32],
+        text: &mut [u8],
+    ) -> Translated {
+        up_as_bytes(table, totals, words, sent, text)
+    }
+}
+
+impl Program for Down {
+    fn translate(
+        self,
+        table: Table,
+        totals: Totals,
+        words: &[u32],
+        sent: &mut [u32],
+        text: &mut [u8],
+    ) -> Translated {
+        let down = flow::down_some(words, sent);
+        sent_as_bytes(table, totals, down.ran, down.counts, sent, text)
+    }
+}
+
+impl Program for Panel {
+    fn translate(
+        self,
+        table: Table,
+        totals: Totals,
+        words: &[u32],
+        sent: &mut [u32],
+        text: &mut [u8],
+    ) -> Translated {
+        up_as_bytes(table, totals, words, sent, &mut text[..0])
+    }
+}
+
+impl Program for Only {
+    fn translate(
+        self,
+        table: Table,
+        totals: Totals,
+        words: &[u32],
+        sent: &mut [u32],
+        text: &mut [u8],
+    ) -> Translated {
+        let done = pupil::only(words, self.group, self.channel, sent);
+        let counts = [0u64; SORTS];
+        sent_as_bytes(table, totals, done, counts, sent, text)
     }
 }

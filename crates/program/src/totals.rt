@@ -24,18 +24,17 @@ impl Totals {
     // With what another buffer came to.
     pub fn and(self, done: Done, more: [u64; SORTS]) -> Totals {
         let mut counts = self.counts;
-        let mut i = 0;
-        while i < SORTS {
-            counts[i] = std::num::wrapping_add_u64(counts[i], more[i]);
-            i += 1;
+        for i in 0..SORTS {
+            counts[i] = counts[i].wrapping_add(more[i]);
         }
         Totals {
-            read: std::num::wrapping_add_u64(self.read, done.read as u64),
-            written: std::num::wrapping_add_u64(self.written, done.written as u64),
+            read: self.read.wrapping_add(done.read as u64),
+            written: self.written.wrapping_add(done.written as u64),
             counts,
         }
     }
 
+    // Kept: as an `if` in each program that writes, what it promises would stand nowhere.
     // Those before a buffer where what it came to could not be written, so that nothing counts that was not.
     pub fn if_written(self, failed: bool, before: Totals) -> Totals
         ensures { result ≡ (if failed then before else self) }

@@ -8,6 +8,6 @@ use Rattle.flow.proofs.down_some.Goals as goal
 pub slice_bounds-tally_of-end : goal.slice_bounds-tally_of-end
 slice_bounds-tally_of-end c =
     let ws = c.args.words.now in
-    let r = c.run_down-done in
+    let r = c.run_down-ran in
     let e = rw c.open_rule.ensures at r.ensures.report in
     sym (length-take-le r.result.read ws (down-reads _ ws r.result e))

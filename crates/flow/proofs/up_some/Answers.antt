@@ -11,7 +11,7 @@ use Rattle.flow.proofs.up_some.Goals as goal
 pub slice_bounds-tally_of-end : goal.slice_bounds-tally_of-end
 unfolding asked table_step run_up
 slice_bounds-tally_of-end c =
-    let r = c.run_from-ran in
+    let r = c.run_from-run in
     let e = rw c.whole_run.ensures at r.ensures.report in
     let a = c.args in
     let ws = a.words.now in
@@ -20,7 +20,7 @@ slice_bounds-tally_of-end c =
 pub returns : goal.returns
 unfolding asked table_step run_up
 returns c =
-    let r = c.run_from-ran.ensures in
+    let r = c.run_from-run.ensures in
     record {
       report = rw c.whole_run.ensures at r.report;
       table = rw c.whole_run.ensures at r.table;
