@@ -5,46 +5,45 @@
 #![tactic(auto)]
 
 ghost use Rattle.std.specs.Prelude.{◌≡◌};
-ghost use Rattle.effect.specs.Effect;
+ghost use Rattle.effect.specs.Effect.{effected};
 
 use channel::Record;
 use keys::Keys;
 use memory::Memory;
 
-// The record stays.
-pub const LEAVES: u32 = 0;
-
-// What is remembered changes.
-pub const REMEMBERS: u32 = 1;
-
-// All keys are released.
-pub const RELEASES_ALL: u32 = 2;
-
-// The message's key is released: Note Off has this status.
-pub const RELEASES: u32 = 8;
-
-// The message's key is pressed: Note On has this status.
-pub const PRESSES: u32 = 9;
+// What a message does: the record stays, what is remembered changes, all keys are released, or the
+// message's own key is released or pressed.
+#[derive(Clone, Copy, PartialEq, Eq)]
+pub enum Effect {
+    Leaves,
+    Remembers,
+    ReleasesAll,
+    Releases,
+    Presses,
+}
 
 // The record after an effect, with what is then remembered and the message's key.
-pub fn effected(record: Record, effect: u32, after: Memory, key: u8) -> Record
-    ensures { result ≡ Effect.effected «record» effect after key }
+#[tactic(auto, unfolding(crate::specs::Effect::effected))]
+pub fn effected(record: Record, effect: Effect, after: Memory, key: u8) -> Record
+    ensures { result ≡ effected «record» effect after key }
 {
-    let keys = record.keys;
-    let memory = record.memory;
     match effect {
-        LEAVES => record,
-        REMEMBERS => Record {
-            keys,
+        Effect::Leaves => record,
+        Effect::Remembers => Record {
             memory: after,
+            ..record
         },
-        RELEASES_ALL => {
-            let keys = Keys::cleared();
-            Record { keys, memory }
-        }
-        _ => {
-            let keys = keys.with_key(key, effect == PRESSES);
-            Record { keys, memory }
-        }
+        Effect::ReleasesAll => Record {
+            keys: Keys::cleared(),
+            ..record
+        },
+        Effect::Releases => Record {
+            keys: record.keys.with_key(key, false),
+            ..record
+        },
+        Effect::Presses => Record {
+            keys: record.keys.with_key(key, true),
+            ..record
+        },
     }
 }

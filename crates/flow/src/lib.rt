@@ -21,7 +21,7 @@ use channel::{RECORDS, Record};
 pub use lamps::{PANEL_BYTES, panel};
 pub use lines::list_some;
 use stream::Done;
-use table::{run_from, whole_run};
+use table::{Job, run_from};
 use tally::{Down, SORTS, Up, tally_of};
 
 // The channel records.
@@ -56,7 +56,7 @@ pub fn up_some(table: Table, words: &[u32], out: &mut [u32]) -> Counted<AfterAnd
     ensures output { out.new ≡ at_start
         (run_up (length out.old) table.records words.now).sends out.old }
 {
-    let run = run_from(table.records, words, out, whole_run());
+    let run = run_from(table.records, words, out, Job::run(screen::open_rule()));
     let records = run.records;
     let after = Table { records };
     let done = run.done;

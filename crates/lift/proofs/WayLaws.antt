@@ -11,7 +11,7 @@ use Rattle.scale.specs.Scale.{up}
 use Rattle.ump.specs.Word.{data1, data2, status}
 use Rattle.memory.specs.declared.Memory.{Memory}
 use Rattle.message.specs.Message.{first2, read1, second2}
-use Rattle.lift.specs.Lift.{effect_of, lift, shown_status}
+use Rattle.lift.specs.Lift.{effect_of, key_effect, lift, shown_status}
 use Rattle.lift.specs.Values.{message_in, note_in}
 
 pub bend-way : (w : ℕ) → (data2 w * 2 ^ 7 + data1 w) % 2 ^ 14 ≡ data2 w * 2 ^ 7 + data1 w
@@ -19,11 +19,11 @@ bend-way w = omega arith
 
 module _ (w : ℕ) (r : Memory) where
   off-way : status w ≡ 8 → note_in w r (status w) ≡ message_in w r (read1 w)
-  unfolding read1 lift effect_of first2 second2 shown_status
+  unfolding read1 lift effect_of first2 key_effect second2 shown_status
   off-way e = rw e (by_bool (eqb (data2 w) 0) (λ z. rw z) (λ z. rw z))
 
   on-way : status w ≡ 9 → note_in w r (status w) ≡ message_in w r (read1 w)
-  unfolding read1 lift effect_of first2 second2 shown_status up
+  unfolding read1 lift effect_of first2 key_effect second2 shown_status up
   on-way e = rw e (by_bool (eqb (data2 w) 0) (λ z. rw (z, eqb-true (data2 w) 0 z)) (λ z. rw z))
 
   pub note-way : (eqb (status w) 8 || eqb (status w) 9) ≡ true → note_in w r (status w) ≡ message_in w r (read1 w)

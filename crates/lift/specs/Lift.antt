@@ -7,7 +7,8 @@ use Rattle.memory.specs.declared.Memory.{Memory}
 use Rattle.memory.specs.Memory.{address_open, assignable, data_high_present, marked, present, registered}
 use Rattle.memory.specs.Memory.{with_address_bank, with_address_closed, with_address_index, with_bank_high, with_bank_low}
 use Rattle.memory.specs.Memory.{with_bank_spent, with_data_high}
-use Rattle.effect.specs.Effect.{leaves, presses, releases, releases_all, remembers}
+use Rattle.effect.specs.declared.Effect.{Effect}
+use Rattle.effect.specs.declared.Effect.TheVariants.{Leaves, Presses, Releases, ReleasesAll, Remembers}
 use Rattle.message.specs.Message.{Bank, Midi1, Midi2, assignable2, bank, channel_pressure1, channel_pressure2}
 use Rattle.message.specs.Message.{control_change1, control_change2, no_bank, note_off1, note_off2, note_on1, note_on2}
 use Rattle.message.specs.Message.{pitch_bend1}
@@ -114,31 +115,35 @@ abbrev pub ends_notes : ℕ → Bool
 ends_notes i = eqb i 120 || eqb i 123
 
 -- what a control change, and what a message does to its channel's record
-unfoldable pub plain_effect : ℕ → ℕ
-plain_effect i = cond (ends_notes i) releases_all leaves
+unfoldable pub plain_effect : ℕ → Effect
+plain_effect i = cond (ends_notes i) ReleasesAll Leaves
 
-unfoldable pub control_effect : Control → ℕ → ℕ
-control_effect BankHigh i = remembers
-control_effect BankLow i = remembers
-control_effect RegisteredBank i = remembers
-control_effect RegisteredIndex i = remembers
-control_effect AssignableBank i = remembers
-control_effect AssignableIndex i = remembers
-control_effect DataHigh i = remembers
-control_effect DataLow i = leaves
-control_effect Nothing i = leaves
-control_effect Reset i = remembers
+unfoldable pub control_effect : Control → ℕ → Effect
+control_effect BankHigh i = Remembers
+control_effect BankLow i = Remembers
+control_effect RegisteredBank i = Remembers
+control_effect RegisteredIndex i = Remembers
+control_effect AssignableBank i = Remembers
+control_effect AssignableIndex i = Remembers
+control_effect DataHigh i = Remembers
+control_effect DataLow i = Leaves
+control_effect Nothing i = Leaves
+control_effect Reset i = Remembers
 control_effect Plain i = plain_effect i
 
-unfoldable pub effect_of : Midi1 → ℕ
-effect_of (note_off1 n v) = releases
-effect_of (note_on1 n v) = cond (eqb v 0) releases presses
-effect_of (poly_pressure1 n v) = leaves
+unfoldable pub effect_of : Midi1 → Effect
+effect_of (note_off1 n v) = Releases
+effect_of (note_on1 n v) = cond (eqb v 0) Releases Presses
+effect_of (poly_pressure1 n v) = Leaves
 effect_of (control_change1 i v) = control_effect (control_of i) i
-effect_of (program_change1 p) = remembers
-effect_of (channel_pressure1 v) = leaves
-effect_of (pitch_bend1 v) = leaves
+effect_of (program_change1 p) = Remembers
+effect_of (channel_pressure1 v) = Leaves
+effect_of (pitch_bend1 v) = Leaves
 
 -- the status that a note is sent with: without velocity it is a Note Off
 unfoldable pub shown_status : ℕ → ℕ → ℕ
 shown_status s v = cond (eqb v 0) 8 s
+
+-- and what a note of that status does to its key
+unfoldable pub key_effect : ℕ → Effect
+key_effect s = cond (eqb s 8) Releases Presses

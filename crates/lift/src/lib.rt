@@ -10,12 +10,11 @@ ghost use Rattle.scale.specs.Scale.{up};
 ghost use Rattle.ump.specs.Word.{channel_of, group_of, voice2};
 ghost use Rattle.ump.specs.Word;
 ghost use Rattle.message.specs.Message.{control_change1, program_change1, read1, voice_word};
-ghost use Rattle.effect.specs.Effect.{leaves, remembers};
-ghost use Rattle.lift.specs.Lift.{data_high, data_low, enters, shown_status};
+ghost use Rattle.lift.specs.Lift.{data_high, data_low, enters, key_effect, shown_status};
 ghost use Rattle.lift.specs.Lift;
 ghost use Rattle.lift.specs.Values.{control_in, message_in, note_in, saying, silent};
 
-use effect::{LEAVES, RELEASES, RELEASES_ALL, REMEMBERS};
+use effect::Effect;
 use memory::{MISSING, Memory, REGISTERED};
 use message::voice_word;
 use ump::{MIDI2_VOICE, data1, data2, status};
@@ -48,34 +47,39 @@ const RESET: u8 = 121;
 
 const ALL_NOTES_OFF: u8 = 123;
 
-// What a message becomes: the memory after it, its effect on the record, and the two words of a
-// MIDI 2.0 message or none.
-#[derive(Drop)]
-pub struct UpwardMessage {
-    pub after: Memory,
-    pub effect: u32,
-    pub sends: bool,
+// The status of a Note Off.
+const NOTE_OFF: u32 = 8;
+
+// The two words of a MIDI 2.0 message.
+#[derive(Clone, Copy)]
+pub struct TwoWords {
     pub first: u32,
     pub second: u32,
 }
 
+// What a message becomes: the memory after it, its effect on the record, and a MIDI 2.0 message or none.
+#[derive(Clone, Copy)]
+pub struct UpwardMessage {
+    pub after: Memory,
+    pub effect: Effect,
+    pub sends: Option<TwoWords>,
+}
+
 // Nothing is sent.
-fn taken_in(after: Memory, effect: u32) -> UpwardMessage
+fn taken_in(after: Memory, effect: Effect) -> UpwardMessage
     ensures { result ≡ silent after effect }
 {
     UpwardMessage {
         after,
         effect,
-        sends: false,
-        first: 0,
-        second: 0,
+        sends: None,
     }
 }
 
 // A message of a status and two bytes in the group and channel of w, with its second word.
 fn sent_up(
     after: Memory,
-    effect: u32,
+    effect: Effect,
     status: u32,
     a: u8,
     b: u8,
@@ -85,12 +89,11 @@ fn sent_up(
     ensures { result
         ≡ saying after effect (voice_word voice2 (group_of w) (status % 2 ^ 4) (channel_of w) a b) second }
 {
+    let first = voice_word(MIDI2_VOICE, status, a, b, w);
     UpwardMessage {
         after,
         effect,
-        sends: true,
-        first: voice_word(MIDI2_VOICE, status, a, b, w),
-        second,
+        sends: Some(TwoWords { first, second }),
     }
 }
 
@@ -116,7 +119,7 @@ fn fourteen(high: u8, low: u8) -> u32
 }
 
 // The value of two halves, sent to the memory's address, and the memory stays.
-fn entered(memory: Memory, effect: u32, high: u8, low: u8, w: u32) -> UpwardMessage
+fn entered(memory: Memory, effect: Effect, high: u8, low: u8, w: u32) -> UpwardMessage
     ensures { result ≡ control_in w effect (enters memory high low) }
 {
     let bank = memory.address_bank;
@@ -131,29 +134,29 @@ fn entered(memory: Memory, effect: u32, high: u8, low: u8, w: u32) -> UpwardMess
 
 // Control change 6: a marked channel sends at once, with a low half of 0, and others keep it.
 fn data_high(memory: Memory, w: u32) -> UpwardMessage
-    ensures { result ≡ control_in w remembers (data_high memory (Word.data2 w)) }
+    ensures { result ≡ control_in w Effect.Remembers (data_high memory (Word.data2 w)) }
 {
     let v = data2(w);
     if memory.is_coarse() & memory.address_open() {
-        entered(memory, REMEMBERS, v, 0, w)
+        entered(memory, Effect::Remembers, v, 0, w)
     } else {
-        taken_in(memory.with_data_high(v), REMEMBERS)
+        taken_in(memory.with_data_high(v), Effect::Remembers)
     }
 }
 
 // Control change 38: sends where data high is present.
 fn data_low(memory: Memory, w: u32) -> UpwardMessage
-    ensures { result ≡ control_in w leaves (data_low memory (Word.data2 w)) }
+    ensures { result ≡ control_in w Effect.Leaves (data_low memory (Word.data2 w)) }
 {
     if memory.data_high_present() {
-        entered(memory, LEAVES, memory.data_high, data2(w), w)
+        entered(memory, Effect::Leaves, memory.data_high, data2(w), w)
     } else {
-        taken_in(memory, LEAVES)
+        taken_in(memory, Effect::Leaves)
     }
 }
 
 // A controller that is sent as itself, with the memory after it.
-fn plain(after: Memory, effect: u32, w: u32) -> UpwardMessage
+fn plain(after: Memory, effect: Effect, w: u32) -> UpwardMessage
     ensures { result ≡ control_in w effect (Lift.plain after (Word.data1 w) (Word.data2 w)) }
 {
     sent_up(after, effect, 11, data1(w), 0, w, seven_bits(data2(w)))
@@ -166,20 +169,20 @@ fn control_change(memory: Memory, w: u32) -> UpwardMessage
     let i = data1(w);
     let v = data2(w);
     match i {
-        BANK_HIGH => taken_in(memory.with_bank_high(v), REMEMBERS),
-        BANK_LOW => taken_in(memory.with_bank_low(v), REMEMBERS),
-        REGISTERED_BANK => taken_in(memory.with_registered_bank(v), REMEMBERS),
-        REGISTERED_INDEX => taken_in(memory.with_registered_index(v), REMEMBERS),
-        ASSIGNABLE_BANK => taken_in(memory.with_assignable_bank(v), REMEMBERS),
-        ASSIGNABLE_INDEX => taken_in(memory.with_assignable_index(v), REMEMBERS),
+        BANK_HIGH => taken_in(memory.with_bank_high(v), Effect::Remembers),
+        BANK_LOW => taken_in(memory.with_bank_low(v), Effect::Remembers),
+        REGISTERED_BANK => taken_in(memory.with_registered_bank(v), Effect::Remembers),
+        REGISTERED_INDEX => taken_in(memory.with_registered_index(v), Effect::Remembers),
+        ASSIGNABLE_BANK => taken_in(memory.with_assignable_bank(v), Effect::Remembers),
+        ASSIGNABLE_INDEX => taken_in(memory.with_assignable_index(v), Effect::Remembers),
         DATA_HIGH => data_high(memory, w),
         DATA_LOW => data_low(memory, w),
-        INCREMENT => taken_in(memory, LEAVES),
-        DECREMENT => taken_in(memory, LEAVES),
-        RESET => plain(memory.with_address_closed(), REMEMBERS, w),
-        ALL_SOUND_OFF => plain(memory, RELEASES_ALL, w),
-        ALL_NOTES_OFF => plain(memory, RELEASES_ALL, w),
-        _ => plain(memory, LEAVES, w),
+        INCREMENT => taken_in(memory, Effect::Leaves),
+        DECREMENT => taken_in(memory, Effect::Leaves),
+        RESET => plain(memory.with_address_closed(), Effect::Remembers, w),
+        ALL_SOUND_OFF => plain(memory, Effect::ReleasesAll, w),
+        ALL_NOTES_OFF => plain(memory, Effect::ReleasesAll, w),
+        _ => plain(memory, Effect::Leaves, w),
     }
 }
 
@@ -193,26 +196,46 @@ fn program(memory: Memory, w: u32) -> UpwardMessage
     let number = (data1(w) as u32) * 0x100_0000;
     if !(high == MISSING) & !(low == MISSING) {
         let second = number + (high as u32) * 0x100 + low as u32;
-        sent_up(after, REMEMBERS, 12, 0, 1, w, second)
+        sent_up(after, Effect::Remembers, 12, 0, 1, w, second)
     } else {
-        sent_up(after, REMEMBERS, 12, 0, 0, w, number)
+        sent_up(after, Effect::Remembers, 12, 0, 0, w, number)
     }
 }
 
 // A silent Note On is a Note Off, and so is a silent Note Off.
+#[tactic(auto, unfolding(crate::specs::Lift::shown_status))]
 fn shown(status: u32, velocity: u8) -> u32
     ensures { result ≡ shown_status status velocity }
 {
-    if velocity == 0 { RELEASES } else { status }
+    if velocity == 0 { NOTE_OFF } else { status }
 }
 
-// Note Off and Note On, by one row: most messages are of these two. The status that is sent is the
-// effect.
+// What a note does to its key, by the status that it is sent with.
+#[tactic(auto, unfolding(crate::specs::Lift::key_effect))]
+fn key_effect(shown: u32) -> Effect
+    ensures { result ≡ key_effect shown }
+{
+    if shown == NOTE_OFF {
+        Effect::Releases
+    } else {
+        Effect::Presses
+    }
+}
+
+// Note Off and Note On, by one row: most messages are of these two.
 fn note(memory: Memory, w: u32, status: u32) -> UpwardMessage
     ensures { result ≡ note_in w memory status }
 {
     let shown = shown(status, data2(w));
-    sent_up(memory, shown, shown, data1(w), 0, w, velocity(w))
+    sent_up(
+        memory,
+        key_effect(shown),
+        shown,
+        data1(w),
+        0,
+        w,
+        velocity(w),
+    )
 }
 
 // The message of a checked MIDI 1.0 voice packet, by its word, with its memory.
@@ -224,10 +247,26 @@ pub fn lifted(memory: Memory, w: u32) -> UpwardMessage
         return note(memory, w, s);
     }
     match s {
-        10 => sent_up(memory, LEAVES, 10, data1(w), 0, w, seven_bits(data2(w))),
+        10 => sent_up(
+            memory,
+            Effect::Leaves,
+            10,
+            data1(w),
+            0,
+            w,
+            seven_bits(data2(w)),
+        ),
         11 => control_change(memory, w),
         12 => program(memory, w),
-        13 => sent_up(memory, LEAVES, 13, 0, 0, w, seven_bits(data1(w))),
-        _ => sent_up(memory, LEAVES, 14, 0, 0, w, fourteen(data2(w), data1(w))),
+        13 => sent_up(memory, Effect::Leaves, 13, 0, 0, w, seven_bits(data1(w))),
+        _ => sent_up(
+            memory,
+            Effect::Leaves,
+            14,
+            0,
+            0,
+            w,
+            fourteen(data2(w), data1(w)),
+        ),
     }
 }

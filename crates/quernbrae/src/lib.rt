@@ -14,6 +14,7 @@ ghost use Rattle.std.specs.Prelude.{◌≡◌, length};
 ghost use Rattle.ground.specs.Store.{at_start};
 ghost use Rattle.ump.specs.Packet.{packet};
 ghost use Rattle.stream.specs.Report.{reported, reported_call};
+ghost use Rattle.screen.specs.Screen.{beginners_rule};
 ghost use Rattle.channel.specs.Record.{empty};
 ghost use Rattle.question.specs.Question.{keys_asked};
 ghost use Rattle.pupil.specs.Only.{only};
@@ -30,12 +31,13 @@ use channel::Record;
 use identity::{Identity, Maker};
 pub use messages::{quernbrae_chain_closed, quernbrae_collect, quernbrae_run_collect};
 use question::KeysDown;
+use screen::{Rule, open_rule};
 pub use sockets::{
     quernbrae_cable_idle, quernbrae_export, quernbrae_import, quernbrae_run_export,
     quernbrae_run_import,
 };
 use stream::Done;
-use table::treat;
+use table::{Job, treat};
 
 // An empty record.
 #[unsafe(no_mangle)]
@@ -55,7 +57,7 @@ pub extern "C" fn quernbrae_up(words: &[u32], table: &mut [Record], out: &mut [u
     ensures output { out.new ≡ at_start
         (one_up (length out.old) table.old words.now).sends out.old }
 {
-    treat(words, table::one_call(), table, out)
+    treat(words, Job::call(open_rule()), table, out)
 }
 
 // A run up: every packet of the words, until one stops it.
@@ -69,6 +71,16 @@ pub extern "C" fn quernbrae_run_up(words: &[u32], table: &mut [Record], out: &mu
         (run_up (length out.old) table.old words.now).sends out.old }
 {
     treat(words, table::run_told(words.len(), table), table, out)
+}
+
+// The rule of the beginners' room.
+fn beginners_rule() -> Rule
+    ensures { result ≡ beginners_rule }
+{
+    Rule {
+        beginners: true,
+        ..open_rule()
+    }
 }
 
 // One call up in the beginners' room, where only some packets may pass.
@@ -86,7 +98,7 @@ pub extern "C" fn quernbrae_beginners_up(
         (beginners_one_up (length out.old) table.old words.now).sends
         out.old }
 {
-    treat(words, table::beginners_call(), table, out)
+    treat(words, Job::call(beginners_rule()), table, out)
 }
 
 // A run up in the beginners' room.
@@ -104,7 +116,7 @@ pub extern "C" fn quernbrae_beginners_run_up(
         (beginners_run_up (length out.old) table.old words.now).sends
         out.old }
 {
-    treat(words, table::beginners_run(), table, out)
+    treat(words, Job::run(beginners_rule()), table, out)
 }
 
 // A lesson: a run up over a table of its own, empty but for the marks of `coarse`.
@@ -164,12 +176,7 @@ pub extern "C" fn quernbrae_down(words: &[u32], out: &mut [u32]) -> Done
     ensures output { out.new
         ≡ at_start (one_down (length out.old) words.now).sends out.old }
 {
-    voice::down(
-        words,
-        stream::report(stream::SENT, 0, 0),
-        out,
-        screen::open_rule(),
-    )
+    voice::down(words, stream::report(stream::SENT, 0, 0), out, open_rule())
 }
 
 // A run down: every packet of the words, until one stops it.
@@ -179,7 +186,7 @@ pub extern "C" fn quernbrae_run_down(words: &[u32], out: &mut [u32]) -> Done
     ensures output { out.new
         ≡ at_start (run_down (length out.old) words.now).sends out.old }
 {
-    voice::run_down(words, out, screen::open_rule())
+    voice::run_down(words, out, open_rule())
 }
 
 // One call down for a host.
@@ -270,8 +277,7 @@ pub extern "C" fn quernbrae_mark_coarse(
     if mark::is_named(n, group, channel) {
         let i = question::place_asked(group, channel);
         let marked = mark::marking(table[i], coarse);
-        let after = marked.after;
-        table[i] = after;
+        table[i] = marked.after;
         marked.answer
     } else {
         mark::unnamed(n)
@@ -296,8 +302,7 @@ pub extern "C" fn quernbrae_host_mark_coarse(
     if hosts::may_mark(host, owners, n, group, channel) {
         let i = question::place_asked(group, channel);
         let marked = mark::marking(table[i], coarse);
-        let after = marked.after;
-        table[i] = after;
+        table[i] = marked.after;
         marked.answer
     } else {
         hosts::unmarked(n, group, channel)

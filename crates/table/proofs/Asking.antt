@@ -1,52 +1,36 @@
--- All records asked before a run: what the loop of `run_told` keeps, and that the run it tells of is the run that asks
--- at each voice message. Assumes nothing.
-use Prim.Native.Nat.{ℕ, zero, suc, ◌+◌}
-use Rattle.std.proofs.Common.{add-one}
-use Rattle.std.proofs.lemmas.List.{get_or_default}
-use mathlib.Core.Path.{◌≡◌, sym, ap, ◌∙◌}
-use mathlib.Core.Bool.{Bool, true, false, cond, ◌&&◌}
+-- All records asked before a run: that the run which `run_told` tells of is the run that asks at each voice message;
+-- and what is asked for in the beginners' room. Assumes nothing.
+use Prim.Native.Nat.{ℕ, zero, suc}
+use Rattle.std.specs.List.{list_all}
+use mathlib.Core.Path.{◌≡◌, refl, ap, ◌∙◌}
+use mathlib.Core.Bool.{Bool, true, false, ◌&&◌}
 use mathlib.Core.List.{List, [], ◌∷◌}
-use lib.Dec.{eqb, leb, ltb}
-use lib.ListN.{drop, drop_of_length-le, get_or, length}
-use lib.Seq.{drop-cons}
-use borrow.Author.Tests.{eqb-true, ltb-false, ltb-true}
+use lib.Dec.{eqb, leb}
+use lib.ListN.{length}
+use borrow.Author.Tests.{eqb-true}
 use Rattle.ground.proofs.Bools.{and_left, and_right}
 use Rattle.ground.proofs.Cases.{by_bool}
 use Rattle.memory.proofs.Sound.{proved-stays-sound}
 use Rattle.screen.specs.Screen.{open_rule}
 use Rattle.channel.specs.declared.Record.{Record}
 use Rattle.channel.specs.Record.{empty, sound, whole_table}
-use Rattle.table.specs.Table.{SoundTable, run_by, run_up, table_by}
-use Rattle.table.specs.Job.{all_sound, asked, known_run, knows, long_run, run_told, table_step, whole_run}
+use Rattle.table.specs.Table.{SoundTable, beginners_one_up, beginners_run_up, run_by, run_up, table_by}
+use Rattle.table.specs.Job.{all_sound, asked, beginners_call, beginners_run, knows, long_run, run_told, table_step}
 use Rattle.table.proofs.KnownLaws.{known-run}
 
--- The loop has come to a place: it knows the records before it, and the rest decides.
-abbrev pub Rest : ℕ → List Record → Bool → ℕ → Type 0
-Rest words t known place = (known && all_sound (drop place t)) ≡ knows words t
+-- all records of a table are asked, one after another
+all-asked : (t : List Record) → list_all sound t ≡ all_sound t
+unfolding all_sound
+all-asked [] = refl
+all-asked (r ∷ t) = ap (λ (b : Bool). sound r && b) (all-asked t)
 
-module _ (words : ℕ) (t : List Record) where
-  -- one more record is asked
-  pub next-rest : (known : Bool) (place : ℕ) → Rest words t known place
-      → (known && ltb place (length t)) ≡ true → (d : Record) (k : Bool) → k ≡ sound (get_or t place d)
-      → Rest words t k (place + 1)
-  unfolding all_sound
-  next-rest known place r e d k f =
-      let h = ltb-true place (length t) (and_right known (ltb place (length t)) e) in
-      rw (f ∙ ap sound (get_or_default t place d empty h), add-one place)
-      (sym (ap all_sound (drop-cons t place empty h))
-      ∙ sym (ap (λ (b : Bool). b && all_sound (drop place t)) (and_left known (ltb place (length t)) e)) ∙ r)
-
-  -- the loop ends at a record that is not sound, or after the last one
-  pub ended : (known : Bool) (place : ℕ) → Rest words t known place → (known && ltb place (length t)) ≡ false
-      → known ≡ knows words t
-  unfolding all_sound
-  ended false place r e = r
-  ended true place r e = sym (ap all_sound (drop_of_length-le t {i = place} (ltb-false place (length t) e))) ∙ r
-
-  -- what the loop found is what the run is told
-  pub told : (k : Bool) → k ≡ knows words t → cond k known_run whole_run ≡ run_told words t
-  unfolding run_told
-  told k e = ap (λ (b : Bool). cond b known_run whole_run) e
+-- what was found is what the run is told
+pub told : (words : ℕ) (t : List Record) (k : Bool) → k ≡ (leb long_run words && list_all sound t)
+    → record { once = false; known = k; rule = open_rule } ≡ run_told words t
+unfolding run_told
+told words t k e =
+    ap (λ (b : Bool). record { once = false; known = b; rule = open_rule })
+    (e ∙ ap (λ (b : Bool). leb long_run words && b) (all-asked t))
 
 all_sound_lem : (t : List Record) → all_sound t ≡ true → SoundTable t
 unfolding all_sound
@@ -63,10 +47,17 @@ known-asked room t s h =
 
 pub told-once : (words : ℕ) (t : List Record) → (run_told words t).once ≡ false
 unfolding run_told
-told-once words t = by_bool (knows words t) (λ e. rw e) (λ e. rw e)
+told-once words t = refl
 
 pub told-run : (words room : ℕ) (t : List Record) (s : List ℕ) → asked (run_told words t) room t s ≡ run_up room t s
 unfolding asked table_step run_told run_up
 told-run words room t s =
     by_bool (knows words t)
     (λ e. rw e (known-asked room t s (all_sound_lem t (and_right (leb long_run words) (all_sound t) e)))) (λ e. rw e)
+
+-- a call and a run in the beginners' room are those of its rule
+pub beginners-asked : (room : ℕ) (t : List Record) (s : List ℕ)
+    → (asked beginners_call room t s ≡ beginners_one_up room t s)
+    × (asked beginners_run room t s ≡ beginners_run_up room t s)
+unfolding asked table_step beginners_one_up beginners_run_up
+beginners-asked room t s = (refl, refl)

@@ -7,7 +7,6 @@ use native.Mathlib.Omega.{arith}
 use lib.ListN.{drop, get_or, length, set, take}
 use lib.Seq.{set-get_or}
 use lib.Dec.{eqb}
-use borrow.Author.Tests.{eq-eqb}
 use Rattle.std.proofs.lemmas.List.{get_or_default}
 use Rattle.ground.specs.Store.{written}
 use Rattle.ump.specs.Word.{data1, place_of}
@@ -18,7 +17,8 @@ use Rattle.stream.proofs.RunLoop.{Inside}
 use Rattle.channel.specs.declared.Record.{Record}
 use Rattle.channel.specs.Record.{empty, sound, whole_table}
 use Rattle.voice.specs.declared.EffectAndReport.{EffectAndReport}
-use Rattle.effect.specs.Effect.{effected, leaves}
+use Rattle.effect.specs.declared.Effect.TheVariants.{Leaves}
+use Rattle.effect.specs.Effect.{effected}
 use Rattle.voice.specs.Packet.{call_by}
 use Rattle.voice.proofs.PacketLaws.{effect-at}
 use Rattle.voice.specs.Turn.{next}
@@ -65,7 +65,7 @@ module _ (j : Job) (ws : List ℕ) (d : Done) (t : List Record) (out : List ℕ)
       (e.0, ap (set t (place_at ws d.read)) made-left ∙ e.2, ap (λ (x : List ℕ). written d.written x out) e.1)
 
   -- without an effect the table stays as it was
-  pub left_alone : eqb turn.effect leaves ≡ true → set t (place_at ws d.read) own ≡ set t (place_at ws d.read)
+  pub left_alone : turn.effect ≡ Leaves → set t (place_at ws d.read) own ≡ set t (place_at ws d.read)
       made
   unfolding effected
   left_alone h = rw h
@@ -87,10 +87,10 @@ module _ (j : Job) (ws : List ℕ) (d : Done) (t : List Record) (out : List ℕ)
         → o ≡ output_after_call (table_step j) ws d t out
     wrote o f = f ∙ ap (λ (r : Record). output_after_call (record_step j) ws d r out) own_is ∙ (as-table l).2
 
-    pub stays : s.effect ≡ leaves → t ≡ state_after (table_step j) ws d t out
+    pub stays : s.effect ≡ Leaves → t ≡ state_after (table_step j) ws d t out
     stays h =
         sym (set-get_or t (place_at ws d.read) empty)
-        ∙ left_alone (eq-eqb turn.effect leaves (sym (ap (λ (x : EffectAndReport). x.effect) turn_is) ∙ h))
+        ∙ left_alone (sym (ap (λ (x : EffectAndReport). x.effect) turn_is) ∙ h)
         ∙ (as-table l).1
 
     pub replaced : (key : ℕ) → key ≡ data1 (get_or ws d.read 0) → (r : Record)

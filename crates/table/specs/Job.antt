@@ -5,6 +5,7 @@ use Rattle.stream.specs.declared.Done.{Done}
 use Rattle.stream.specs.Call.{Call}
 use Rattle.stream.specs.Report.{reported, reported_call}
 use Rattle.stream.specs.Run.{Ran}
+use Rattle.screen.specs.declared.Rule.{Rule}
 use Rattle.screen.specs.Screen.{beginners_rule, open_rule}
 use Rattle.channel.specs.declared.Record.{Record}
 use Rattle.channel.specs.Record.{sound}
@@ -12,11 +13,12 @@ use Rattle.voice.specs.Packet.{call_by}
 use Rattle.table.specs.Table.{one_by, run_by, table_by}
 use Rattle.table.specs.declared.Job.{Job}
 
-abbrev pub one_call : Job
-one_call = record { once = true; known = false; rule = open_rule }
+-- under a rule, asking each record whether it is sound
+abbrev pub call_under : Rule → Job
+call_under rule = record { once = true; known = false; rule = rule }
 
-abbrev pub whole_run : Job
-whole_run = record { once = false; known = false; rule = open_rule }
+abbrev pub run_under : Rule → Job
+run_under rule = record { once = false; known = false; rule = rule }
 
 -- a run over records that are known to be sound (02 M-111)
 abbrev pub known_run : Job
@@ -36,14 +38,14 @@ abbrev pub knows : ℕ → List Record → Bool
 knows words t = leb long_run words && all_sound t
 
 unfoldable pub run_told : ℕ → List Record → Job
-run_told words t = cond (knows words t) known_run whole_run
+run_told words t = record { once = false; known = knows words t; rule = open_rule }
 
 -- a call and a run in the beginners' room (02 M-113)
 abbrev pub beginners_call : Job
-beginners_call = record { once = true; known = false; rule = beginners_rule }
+beginners_call = call_under beginners_rule
 
 abbrev pub beginners_run : Job
-beginners_run = record { once = false; known = false; rule = beginners_rule }
+beginners_run = run_under beginners_rule
 
 -- what a packet does with its record, what a call does with the table, and what is asked of the words
 unfoldable pub record_step : Job → Record → List ℕ → Call Record

@@ -8,19 +8,20 @@
 #![tactic(auto)]
 
 ghost use Rattle.std.specs.Prelude.{◌≡◌, cond, not, ◌&&◌, ◌||◌, eqb, ltb, get_or, length};
+ghost use Rattle.std.specs.List.{list_all};
 ghost use Rattle.ground.specs.Store.{at_start};
 ghost use Rattle.ump.specs.Word.{data1, place_of};
 ghost use Rattle.stream.specs.Answers.{no_table, sent};
 ghost use Rattle.stream.specs.Report.{counting, placing};
-ghost use Rattle.channel.specs.Record.{empty, whole_table};
+ghost use Rattle.channel.specs.Record.{empty, sound, whole_table};
 ghost use Rattle.table.specs.Table.{table_after};
-ghost use Rattle.table.specs.Job.{asked, asked_report, beginners_call, beginners_run, known_run, one_call};
-ghost use Rattle.table.specs.Job.{record_step, run_told, table_step, whole_run};
+ghost use Rattle.table.specs.Job.{asked, asked_report, call_under, known_run, record_step, run_told, run_under};
+ghost use Rattle.table.specs.Job.{table_step};
 ghost use Rattle.table.specs.Ended.{ended_by, report_in};
 ghost use Rattle.table.specs.Next.{output_after_call, report_after_call, state_after, turn_at};
 
 use channel::{RECORDS, Record};
-use effect::{LEAVES, effected};
+use effect::{Effect, effected};
 use screen::Rule;
 use stream::{Done, NO_TABLE, SENT, report, report_place};
 use voice::EffectAndReport;
@@ -58,31 +59,26 @@ pub struct TableAndReport {
     pub done: Done,
 }
 
-pub fn one_call() -> Job
-    ensures { result ≡ one_call }
-{
-    Job {
-        once: true,
-        known: false,
-        rule: Rule {
-            beginners: false,
-            fenced: false,
-            groups: 0,
-        },
+impl Job {
+    // One call under a rule.
+    pub fn call(rule: Rule) -> Job
+        ensures { result ≡ call_under rule }
+    {
+        Job {
+            once: true,
+            ..Job::run(rule)
+        }
     }
-}
 
-pub fn whole_run() -> Job
-    ensures { result ≡ whole_run }
-{
-    Job {
-        once: false,
-        known: false,
-        rule: Rule {
-            beginners: false,
-            fenced: false,
-            groups: 0,
-        },
+    // A run under a rule, which asks each record that it needs whether it is sound.
+    pub fn run(rule: Rule) -> Job
+        ensures { result ≡ run_under rule }
+    {
+        Job {
+            once: false,
+            known: false,
+            rule,
+        }
     }
 }
 
@@ -91,43 +87,8 @@ pub fn known_run() -> Job
     ensures { result ≡ known_run }
 {
     Job {
-        once: false,
         known: true,
-        rule: Rule {
-            beginners: false,
-            fenced: false,
-            groups: 0,
-        },
-    }
-}
-
-// A call in the beginners' room.
-pub fn beginners_call() -> Job
-    ensures { result ≡ beginners_call }
-{
-    Job {
-        once: true,
-        known: false,
-        rule: Rule {
-            beginners: true,
-            fenced: false,
-            groups: 0,
-        },
-    }
-}
-
-// A run in the beginners' room.
-pub fn beginners_run() -> Job
-    ensures { result ≡ beginners_run }
-{
-    Job {
-        once: false,
-        known: false,
-        rule: Rule {
-            beginners: true,
-            fenced: false,
-            groups: 0,
-        },
+        ..Job::run(screen::open_rule())
     }
 }
 
@@ -135,34 +96,30 @@ pub fn beginners_run() -> Job
 // voice message.
 const LONG_RUN: usize = 512;
 
-// A run, by whether its records are known to be sound.
-fn run_knowing(known: bool) -> Job
-    ensures { result ≡ cond known known_run whole_run }
+// Whether every record of a table is sound.
+fn are_sound(table: &[Record]) -> bool
+    ensures { result ≡ list_all sound table.now }
 {
-    if known { known_run() } else { whole_run() }
+    table.iter().all(|record| record.is_sound())
 }
 
 // The run of so many words over a table: a long one asks all records here, until one is not sound.
 pub fn run_told(words: usize, table: &[Record]) -> Job
     ensures { result ≡ run_told words table.now }
 {
-    let mut known = LONG_RUN <= words;
-    let mut i = 0;
-    while known & (i < table.len()) {
-        known = table[i].is_sound();
-        i = i + 1;
+    Job {
+        known: LONG_RUN <= words && are_sound(table),
+        ..Job::run(screen::open_rule())
     }
-    run_knowing(known)
 }
 
 // The record at a place, and an empty one past the end.
 pub fn record_at(table: &[Record], i: usize) -> Record
     ensures { result ≡ get_or table.now i empty }
 {
-    if i < table.len() {
-        table[i]
-    } else {
-        Record::empty()
+    match table.get(i) {
+        Some(record) => *record,
+        None => Record::empty(),
     }
 }
 
@@ -209,8 +166,7 @@ fn step(words: &[u32], job: Job, past: Done, record: Record, out: &mut [u32]) ->
     ensures output { out.new
         ≡ output_after_call (record_step job) words.now past «record» out.old }
 {
-    let rule = job.rule;
-    voice::up(words, past, record, job.known, out, rule)
+    voice::up(words, past, record, job.known, out, job.rule)
 }
 
 // The call at the next packet, with the table, which is a whole one.
@@ -225,12 +181,12 @@ fn one(words: &[u32], job: Job, past: Done, table: &mut [Record], out: &mut [u32
 {
     let i = place_of(words, past);
     let s = step(words, job, past, table[i], out);
-    if s.effect == LEAVES {
-        s.done
-    } else {
-        let after = s.after;
-        table[i] = effected(table[i], s.effect, after, key_of(words, past));
-        s.done
+    match s.effect {
+        Effect::Leaves => s.done,
+        effect => {
+            table[i] = effected(table[i], effect, s.after, key_of(words, past));
+            s.done
+        }
     }
 }
 
@@ -258,23 +214,25 @@ fn onward(words: usize, job: Job, past: Done, done: Done) -> Progress
     }
 }
 
-// A report, as it is handed over.
-fn ending(done: Done) -> Ended
-    ensures { result ≡ ended_by done }
-{
-    Ended {
-        written: done.written,
-        answer: done.answer,
-        read: done.read,
-        place: done.place,
+impl From<Done> for Ended {
+    ghost from_gives = { λ d e. e ≡ ended_by d };
+
+    fn from(done: Done) -> Ended {
+        Ended {
+            written: done.written,
+            answer: done.answer,
+            read: done.read,
+            place: done.place,
+        }
     }
 }
 
-// The report that was handed over.
-fn report_of(end: Ended) -> Done
-    ensures { result ≡ report_in end }
-{
-    report_place(end.answer, end.place, end.read, end.written)
+impl From<Ended> for Done {
+    ghost from_gives = { λ e d. d ≡ report_in e };
+
+    fn from(end: Ended) -> Done {
+        report_place(end.answer, end.place, end.read, end.written)
+    }
 }
 
 // The call at the start of the words, or the run over all of them.
@@ -291,7 +249,7 @@ fn go_through(words: &[u32], job: Job, table: &mut [Record], out: &mut [u32]) ->
         let done = one(words, job, p.done, table, out);
         p = onward(words.len(), job, p.done, done);
     }
-    ending(p.done)
+    Ended::from(p.done)
 }
 
 // The same, with the report.
@@ -303,8 +261,7 @@ pub fn treat(words: &[u32], job: Job, table: &mut [Record], out: &mut [u32]) -> 
     ensures output { out.new ≡ at_start
         (asked job (length out.old) table.old words.now).sends out.old }
 {
-    let end = go_through(words, job, table, out);
-    report_of(end)
+    Done::from(go_through(words, job, table, out))
 }
 
 // The same with a table by value, which is lent to the loop.
@@ -322,7 +279,6 @@ pub fn run_from(
         (asked job (length out.old) «table» words.now).sends out.old }
 {
     let mut records = table;
-    let end = go_through(words, job, &mut records, out);
-    let done = report_of(end);
+    let done = Done::from(go_through(words, job, &mut records, out));
     TableAndReport { records, done }
 }

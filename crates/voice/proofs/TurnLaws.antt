@@ -4,6 +4,7 @@ use mathlib.Core.Path.{◌≡◌, refl, sym, ap, ◌∙◌}
 use mathlib.Core.Bool.{Bool, true, false, cond}
 use mathlib.Core.Logic.{⊎_elim}
 use mathlib.Core.Option.{Option, none, some}
+use Rattle.std.specs.Prelude.{Some, None}
 use mathlib.Core.List.{List, [], ◌∷◌}
 use Prim.Native.Nat.{ℕ, zero, suc, ◌+◌, ◌-◌, ◌<◌, ◌≤◌, ◌^◌}
 use native.Mathlib.Omega.{arith}
@@ -28,9 +29,11 @@ use Rattle.screen.specs.Screen.{Screened}
 use Rattle.screen.specs.Screen.{goes_on, screen_by, screen_voice1, screened}
 use Rattle.screen.proofs.ScreenLaws.{cut-only, refused-above, screen-place, screen-word}
 use Rattle.channel.specs.declared.Record.{Record}
-use Rattle.message.specs.Message.{Midi2, read1}
+use Rattle.message.specs.Message.{Midi2, first2, read1, second2}
+use Rattle.lift.specs.declared.TwoWords.{TwoWords}
 use Rattle.lift.specs.declared.UpwardMessage.{UpwardMessage}
-use Rattle.effect.specs.Effect.{leaves}
+use Rattle.effect.specs.declared.Effect.{Effect}
+use Rattle.effect.specs.declared.Effect.TheVariants.{Leaves}
 use Rattle.lift.specs.Lift.{effect_of, lift}
 use Rattle.lift.specs.Played.{record_after}
 use Rattle.lift.specs.Values.{message_in, sending_in}
@@ -93,15 +96,15 @@ unfolding screened
 refuses s t act n = rw (ne_eqb s.answer goes_on n)
 
 -- a record that stays beside a refusal
-pub refused-turn : (d : Done) (p out : List ℕ) (r : Record) (may : ℕ) (a : ℕ) → (stops_run a ≡ true → p ≡ [])
+pub refused-turn : (d : Done) (p out : List ℕ) (r : Record) (may : Effect) (a : ℕ) → (stops_run a ≡ true → p ≡ [])
     → leb a taken_in ≡ false
-    → record { after = r.memory; effect = leaves; done = placing a (place_told a p) (d.read + length p) d.written }
+    → record { after = r.memory; effect = Leaves; done = placing a (place_told a p) (d.read + length p) d.written }
     ≡ turned d p out r may (refused a r)
 refused-turn d p out r may a no-packet above =
     let z = refusal {T = ℕ × Record} a (length out - d.written, r) p no-packet in
     rw (refused-fits (length out - d.written) a r, z.0, z.1, z.2, z.3, above, add-zero d.written)
 
--- a message with its record: it sends two words, has no room for them, or is taken in
+-- a message with its record that sends two words
 module _ (d : Done) (w : ℕ) (r : Record) (out : List ℕ) (m : UpwardMessage)
     (e : m ≡ message_in w r.memory (read1 w)) where
   abbrev Spoken : EffectAndReport → List ℕ → Type 0
@@ -112,39 +115,24 @@ module _ (d : Done) (w : ℕ) (r : Record) (out : List ℕ) (m : UpwardMessage)
       let c = sending (group_of w) (channel_of w) (record_after r (read1 w)) o in
       (x ≡ turned d (w ∷ []) out r (effect_of (read1 w)) c) × (after ≡ output_of d out c)
 
-  pub message-sent : m.sends ≡ true → 2 ≤ length out - d.written → d.written < length out
+  abbrev as_words : Midi2 → TwoWords
+  as_words y = record { first = first2 (group_of w) (channel_of w) y; second = second2 y }
+
+  pub message-sent : (x : TwoWords) → m.sends ≡ Some x → 2 ≤ length out - d.written → d.written < length out
       → Spoken (record { after = m.after; effect = m.effect; done = counting sent (d.read + 1) (d.written + 2) })
-      (sets out d.written (m.first ∷ m.second ∷ []))
-  message-sent s h i = go (lift r.memory (read1 w)).sends e
+      (sets out d.written (x.first ∷ x.second ∷ []))
+  message-sent x s h i = go (lift r.memory (read1 w)).sends e
     where
       go : (o : Option Midi2) → m ≡ sending_in (group_of w) (channel_of w) (lift r.memory (read1 w)).after
           (effect_of (read1 w)) o
           → As o (record { after = m.after; effect = m.effect; done = counting sent (d.read + 1) (d.written + 2) })
-          (sets out d.written (m.first ∷ m.second ∷ []))
-      go none f = not-both (sym (ap (λ (x : UpwardMessage). x.sends) f) ∙ s)
-      go (some x) f = rw (le-leb 2 (length out - d.written) h)
-          (rw f, sets-eq (m.first ∷ m.second ∷ []) out d.written (omega arith) ∙ rw f)
-
-  pub message-tight : m.sends ≡ true → length out - d.written < 2
-      → Spoken (record { after = r.memory; effect = leaves; done = counting no_room d.read d.written }) out
-  message-tight s h = go (lift r.memory (read1 w)).sends e
-    where
-      go : (o : Option Midi2) → m ≡ sending_in (group_of w) (channel_of w) (lift r.memory (read1 w)).after
-          (effect_of (read1 w)) o
-          → As o (record { after = r.memory; effect = leaves; done = counting no_room d.read d.written }) out
-      go none f = not-both (sym (ap (λ (x : UpwardMessage). x.sends) f) ∙ s)
-      go (some x) f = rw (lt-leb 2 (length out - d.written) h)
-          (rw (add-zero d.read, add-zero d.written), sym (written_none d.written out))
-
-  pub message-quiet : m.sends ≡ false
-      → Spoken (record { after = m.after; effect = m.effect; done = counting taken_in (d.read + 1) d.written }) out
-  message-quiet s = go (lift r.memory (read1 w)).sends e
-    where
-      go : (o : Option Midi2) → m ≡ sending_in (group_of w) (channel_of w) (lift r.memory (read1 w)).after
-          (effect_of (read1 w)) o
-          → As o (record { after = m.after; effect = m.effect; done = counting taken_in (d.read + 1) d.written }) out
-      go none f = rw (leb-zero (length out - d.written)) (rw (f, add-zero d.written), sym (written_none d.written out))
-      go (some x) f = not-both (sym s ∙ ap (λ (x : UpwardMessage). x.sends) f)
+          (sets out d.written (x.first ∷ x.second ∷ []))
+      go none f = let k : m.sends ≡ None = ap (λ (z : UpwardMessage). z.sends) f in absurd (cc)
+      go (some y) f =
+          let k : m.sends ≡ Some (as_words y) = ap (λ (z : UpwardMessage). z.sends) f in
+          let z : x ≡ as_words y = cc in
+          rw (le-leb 2 (length out - d.written) h)
+          (rw f, sets-eq (x.first ∷ x.second ∷ []) out d.written (omega arith) ∙ rw z)
 
 -- the packet at a place where a MIDI 1.0 voice message stands is that one word
 module _ (ws : List ℕ) (i : ℕ) where
@@ -177,7 +165,7 @@ module _ (ws : List ℕ) (i : ℕ) where
           taken zero h = absurd (omega arith)
           taken (suc k) h = ne_eqb (message_type w) voice1 n
 
-same-either : (b : Bool) → cond b leaves leaves ≡ leaves
+same-either : (b : Bool) → cond b Leaves Leaves ≡ Leaves
 same-either true = refl
 same-either false = refl
 
@@ -191,13 +179,13 @@ module _ (d : Done) (p out : List ℕ) (r : Record) where
       (◌≡◌ {A = EffectAndReport}
       (record {
         after = r.memory;
-        effect = leaves;
+        effect = Leaves;
         done = placing (answer_of c) (place_told (answer_of c) p)
             (d.read + read_of p c) (d.written + length (sent_of c));
       })
       (record {
         after = (left_of (room, r) k).1.memory;
-        effect = effect_by leaves k;
+        effect = effect_by Leaves k;
         done = placing (answer_of k) (place_told (answer_of k) p) (d.read + read_of p k)
             (d.written + length (sent_of k));
       }))
@@ -217,7 +205,7 @@ module _ (d : Done) (p out : List ℕ) (r : Record) where
       go false = rw (same-either (leb a taken_in)) (refl, refl)
 
   pub onward-turn : (rule : Rule) (ok : Bool) → eqb (message_type (first p)) voice1 ≡ false
-      → (record { after = r.memory; effect = leaves; done = report_of d p out (onward_of rule voice2 p) }
+      → (record { after = r.memory; effect = Leaves; done = report_of d p out (onward_of rule voice2 p) }
       ≡ turned d p out r (effect_at p) (packet_if rule ok r p))
       × (output_of d out (onward_of rule voice2 p) ≡ output_of d out (packet_if rule ok r p))
   unfolding packet_if
@@ -297,7 +285,7 @@ unfolding speak_if
 speaks-sound ok r w h = rw h
 
 pub speaks-unsound : (ok : Bool) (d : Done) (w : ℕ) (r : Record) (out : List ℕ) → ok ≡ false
-    → (record { after = r.memory; effect = leaves; done = counting not_sound d.read d.written }
+    → (record { after = r.memory; effect = Leaves; done = counting not_sound d.read d.written }
     ≡ turned d (w ∷ []) out r (effect_of (read1 w)) (speak_if ok r w))
     × (out ≡ output_of d out (speak_if ok r w))
 unfolding speak_if
@@ -308,7 +296,7 @@ pub check-refused : (rule : Rule) (ok : Bool) (d : Done) (w : ℕ) (r : Record) 
     → message_type w ≡ voice1 → s ≡ screen_voice1 rule w
     → (s.answer ≡ goes_on → ⊥)
     → let x = screen_by rule voice2 (w ∷ []) in
-    (record { after = r.memory; effect = leaves; done = placing s.answer s.place (d.read + 1) d.written }
+    (record { after = r.memory; effect = Leaves; done = placing s.answer s.place (d.read + 1) d.written }
     ≡ turned d (w ∷ []) out r (effect_of (read1 w)) (screened x r (speak_if ok r w)))
     × (out ≡ output_of d out (screened x r (speak_if ok r w)))
 check-refused rule ok d w r out s v e n =
@@ -336,7 +324,7 @@ module _ (rule : Rule) (ok : Bool) (d : Done) (w : ℕ) (r : Record) (out : List
   may-speak h = passes-word ∙ speaks-sound ok r w h
 
   pub may-not-speak : ok ≡ false
-      → (record { after = r.memory; effect = leaves; done = counting not_sound d.read d.written }
+      → (record { after = r.memory; effect = Leaves; done = counting not_sound d.read d.written }
       ≡ turned d (w ∷ []) out r (effect_of (read1 w)) Acted)
       × (out ≡ output_of d out Acted)
   may-not-speak h = rw passes-word (speaks-unsound ok d w r out h)

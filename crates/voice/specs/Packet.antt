@@ -13,7 +13,8 @@ use Rattle.screen.specs.Screen.{open_rule, screen_by, screened}
 use Rattle.channel.specs.declared.Record.{Record}
 use Rattle.channel.specs.Record.{sound}
 use Rattle.message.specs.Message.{Midi1, Midi2, read1, read2, write1, write2}
-use Rattle.effect.specs.Effect.{leaves}
+use Rattle.effect.specs.declared.Effect.{Effect}
+use Rattle.effect.specs.declared.Effect.TheVariants.{Leaves}
 use Rattle.lift.specs.Lift.{effect_of, lift}
 use Rattle.lift.specs.Played.{record_after}
 use Rattle.lower.specs.Lower.{lower}
@@ -67,8 +68,8 @@ abbrev pub onward_of : Rule → ℕ → List ℕ → Call (Unit {0})
 onward_of rule wrong p = screened (screen_by rule wrong p) tt (went sent p tt)
 
 -- what a packet may do to its record
-abbrev pub effect_at : List ℕ → ℕ
-effect_at p = cond (eqb (message_type (first p)) voice1) (effect_of (read1 (first p))) leaves
+abbrev pub effect_at : List ℕ → Effect
+effect_at p = cond (eqb (message_type (first p)) voice1) (effect_of (read1 (first p))) Leaves
 
 -- One call under a rule: the packet that stands first in the words left. Soundness is asked of its record, unless that
 -- is known to be sound (02 M-111).

@@ -7,7 +7,8 @@ use Rattle.stream.specs.Answers.{no_room, sent, taken_in}
 use Rattle.stream.specs.Call.{Call, answer_of, fit, left_of, sent_of}
 use Rattle.stream.specs.Report.{counting, further}
 use Rattle.channel.specs.declared.Record.{Record}
-use Rattle.effect.specs.Effect.{leaves}
+use Rattle.effect.specs.declared.Effect.{Effect}
+use Rattle.effect.specs.declared.Effect.TheVariants.{Leaves}
 use Rattle.voice.specs.declared.EffectAndReport.{EffectAndReport}
 
 -- the packet that is next
@@ -26,11 +27,11 @@ abbrev pub output_of : {T : Type 0} → Done → List ℕ → Call T → List �
 output_of d out c = written d.written (sent_of (in_room d out c)) out
 
 -- a packet has its effect only if it was sent or taken in
-abbrev pub effect_by : {T : Type 0} → ℕ → Call T → ℕ
-effect_by may c = cond (leb (answer_of c) taken_in) may leaves
+abbrev pub effect_by : {T : Type 0} → Effect → Call T → Effect
+effect_by may c = cond (leb (answer_of c) taken_in) may Leaves
 
 -- going up: what is then remembered, the effect on the record, and the report
-abbrev pub turned : Done → List ℕ → List ℕ → Record → ℕ → Call Record → EffectAndReport
+abbrev pub turned : Done → List ℕ → List ℕ → Record → Effect → Call Record → EffectAndReport
 turned d p out r may c =
     record {
       after = (left_of (length out - d.written, r) (in_room d out c)).1.memory;

@@ -10,6 +10,7 @@ mod output;
 mod upward;
 
 pub use downward::{down, run_down};
+use effect::Effect;
 use memory::Memory;
 use stream::Done;
 pub use upward::up;
@@ -19,6 +20,6 @@ pub use upward::up;
 #[derive(Clone, Copy)]
 pub struct EffectAndReport {
     pub after: Memory,
-    pub effect: u32,
+    pub effect: Effect,
     pub done: Done,
 }

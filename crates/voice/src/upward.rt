@@ -3,10 +3,8 @@
 ghost use Rattle.std.specs.Prelude.{◌≡◌, ◌||◌, [], ◌∷◌, ◌+◌, ◌<◌, ◌^◌};
 ghost use Rattle.ump.specs.Word.{message_type, voice1, voice2};
 ghost use Rattle.screen.specs.Screen.{screen_by, screened};
-ghost use Rattle.memory.specs.Memory.{sound as soundMemory};
 ghost use Rattle.channel.specs.Record.{sound};
 ghost use Rattle.message.specs.Message.{read1};
-ghost use Rattle.effect.specs.Effect.{leaves};
 ghost use Rattle.lift.specs.Lift.{effect_of};
 ghost use Rattle.voice.specs.Packet.{effect_at, packet_if, speak_if, spoken};
 ghost use Rattle.voice.specs.Turn.{next, output_of, turned};
@@ -14,21 +12,20 @@ ghost use Rattle.voice.specs.Turn.{next, output_of, turned};
 use crate::EffectAndReport;
 use crate::output::{onward, refuse, room};
 use channel::Record;
-use effect::LEAVES;
+use effect::Effect;
 use lift::UpwardMessage;
-use memory::Memory;
 use screen::{GOES_ON, Rule};
 use stream::{Done, NO_ROOM, NOT_SOUND, SENT, TAKEN_IN, report};
 use ump::{MIDI1_VOICE, MIDI2_VOICE};
 
 // The record stays.
 fn stays(record: Record, done: Done) -> EffectAndReport
-    ensures { result ≡ record { after = «record».memory; effect = leaves; done = done } }
+    ensures { result ≡ record { after = «record».memory; effect = Effect.Leaves; done = done } }
 {
     let after = record.memory;
     EffectAndReport {
         after,
-        effect: LEAVES,
+        effect: Effect::Leaves,
         done,
     }
 }
@@ -56,23 +53,17 @@ fn speak(past: Done, record: Record, w: u32, out: &mut [u32]) -> EffectAndReport
     let message = lift::lifted(memory, w);
     let read = past.read;
     let to = past.written;
-    if message.sends {
-        if room(out.len(), to) < 2 {
-            return stays(record, report(NO_ROOM, read, to));
+    match message.sends {
+        Some(words) => {
+            if room(out.len(), to) < 2 {
+                return stays(record, report(NO_ROOM, read, to));
+            }
+            out[to] = words.first;
+            out[to + 1] = words.second;
+            acts(message, report(SENT, read + 1, to + 2))
         }
-        out[to] = message.first;
-        out[to + 1] = message.second;
-        acts(message, report(SENT, read + 1, to + 2))
-    } else {
-        acts(message, report(TAKEN_IN, read + 1, to))
+        None => acts(message, report(TAKEN_IN, read + 1, to)),
     }
-}
-
-// What a channel remembers is not asked where it is known to be sound.
-fn is_found_sound(known: bool, memory: Memory) -> bool
-    ensures { result ≡ (known || soundMemory memory) }
-{
-    if known { true } else { memory.is_sound() }
 }
 
 // A MIDI 1.0 voice message, by its one word, under a rule. It is screened once: what is found lets it go on to its
@@ -94,7 +85,8 @@ fn voice_up(
     let memory = record.memory;
     let screened = screen::screen_voice1(rule, w);
     if screened.answer == GOES_ON {
-        if is_found_sound(known, memory) {
+        // What a channel remembers is not asked where it is known to be sound.
+        if known || memory.is_sound() {
             speak(past, record, w, out)
         } else {
             stays(record, report(NOT_SOUND, past.read, past.written))

@@ -12,7 +12,7 @@ pub slice_bounds-tally_of-end : goal.slice_bounds-tally_of-end
 unfolding asked table_step run_up
 slice_bounds-tally_of-end c =
     let r = c.run_from-run in
-    let e = rw c.whole_run.ensures at r.ensures.report in
+    let e = rw (c.run.ensures, c.open_rule.ensures) at r.ensures.report in
     let a = c.args in
     let ws = a.words.now in
     sym (length-take-le r.result.done.read ws (up-reads (length a.out.now) a.table.records ws r.result.done e))
@@ -22,8 +22,8 @@ unfolding asked table_step run_up
 returns c =
     let r = c.run_from-run.ensures in
     record {
-      report = rw c.whole_run.ensures at r.report;
-      table = rw c.whole_run.ensures at r.table;
+      report = rw (c.run.ensures, c.open_rule.ensures) at r.report;
+      table = rw (c.run.ensures, c.open_rule.ensures) at r.table;
       counts = c.tally_of-counts.ensures;
-      output = rw c.whole_run.ensures at r.output;
+      output = rw (c.run.ensures, c.open_rule.ensures) at r.output;
     }

@@ -1,13 +1,11 @@
--- `quernbrae::quernbrae_host_up` meets its contract: it hands all on to `treat`, and what that says is the contract. Assumes nothing.
-use Rattle.std.proofs.Common.{◌≡◌, ◌∙◌}
-use Rattle.quernbrae.proofs.Said.{host-one-said}
+-- `quernbrae::quernbrae_host_up` meets its contract: it hands all on to `treat`, and what that says is the contract.
+-- Assumes nothing.
+use Rattle.hosts.specs.Hosts.{host_one_up}
+use Rattle.table.specs.Job.{asked, table_step}
 use Rattle.quernbrae.proofs.quernbrae_host_up.Goals as goal
 
 pub returns : goal.returns
+unfolding asked table_step host_one_up
 returns c =
-    let a = c.args in
-    let z = host-one-said a.host a.owners.now a.words.now a.table.now a.out.now in
-    let r = rw c.host_job.ensures at c.treat.ensures.report in
-    let t = rw c.host_job.ensures at c.treat.ensures.table in
-    let o = rw c.host_job.ensures at c.treat.ensures.output in
-    record { report = r ∙ z.0; table = t ∙ z.1; output = o ∙ z.2 }
+    let t = rw c.host_job.ensures at c.treat.ensures in
+    record { report = t.report; table = t.table; output = t.output }

@@ -39,4 +39,4 @@ returns c =
     let a = c.args in
     let l = c.loop-p in
     let z = ended a.words.now a.job a.table.now a.out.now l.p l.table l.out c.loop-p-test.false l.invariant.0 in
-    record { report = c.ending.ensures ∙ ap ended_by z.1; table = z.0.leaves; output = z.0.holds }
+    record { report = c.from.ensures ∙ ap ended_by z.1; table = z.0.leaves; output = z.0.holds }

@@ -2,8 +2,8 @@
 use Rattle.table.proofs.StepLaws.{replaced, stays, told, wrote}
 use Rattle.table.proofs.one.Goals as goal
 
-pub returns-then-s-eq-LEAVES : goal.returns-then-s-eq-LEAVES
-returns-then-s-eq-LEAVES c =
+pub returns-in-Leaves : goal.returns-in-Leaves
+returns-in-Leaves c =
     let a = c.args in
     let i = c.place_of-i in
     let s = c.step-s in
@@ -12,14 +12,14 @@ returns-then-s-eq-LEAVES c =
       report = told a.job a.words.now a.past a.table.now a.out.now c.requires i.result i.ensures _ s.result e;
       table =
           stays a.job a.words.now a.past a.table.now a.out.now c.requires i.result i.ensures _ s.result e
-          c.if-s-eq-LEAVES.true;
+          c.in-Leaves.is;
       output =
           wrote a.job a.words.now a.past a.table.now a.out.now c.requires i.result i.ensures _ s.result e s.new.out
           s.ensures.output;
     }
 
-pub returns-else-s-eq-LEAVES : goal.returns-else-s-eq-LEAVES
-returns-else-s-eq-LEAVES c =
+pub returns-in_default : goal.returns-in_default
+returns-in_default c =
     let a = c.args in
     let i = c.place_of-i in
     let s = c.step-s in

@@ -1,17 +1,18 @@
--- `table::run_told` meets its contract: each turn asks one record, and the last one knows them all or one that is not
--- sound. Assumes nothing.
+-- `table::run_told` meets its contract: a long run asks all records, and a short one none. Assumes nothing.
 use Rattle.std.proofs.Common.{◌∙◌}
-use Rattle.table.proofs.Asking.{ended, next-rest, told}
+use borrow.Author.Tests.{le-leb, lt-leb}
+use Rattle.table.specs.Job.{long_run}
+use Rattle.table.proofs.Asking.{told}
 use Rattle.table.proofs.run_told.Goals as goal
-
-pub loop-known-preserved : goal.loop-known-preserved
-loop-known-preserved c =
-    let l = c.loop-known in
-    next-rest c.args.words c.args.table.now l.known l.i l.invariant c.loop-known-test.true _ _ c.is_sound-known.ensures
+use Rattle.table.proofs.run_told.Goals.{then-words-ge-LONG_RUN, else-words-ge-LONG_RUN}
 
 pub returns : goal.returns
 returns c =
-    let l = c.loop-known in
-    c.run_knowing.ensures
-    ∙ told c.args.words c.args.table.now l.known
-    (ended c.args.words c.args.table.now l.known l.i l.invariant c.loop-known-test.false)
+    let words = c.args.words in
+    rw (c.run.ensures, c.open_rule.ensures) (told words c.args.table.now _ (elim c.if-words-ge-LONG_RUN.branch [
+      | then-words-ge-LONG_RUN w ↦
+          rw (le-leb long_run words w.if-words-ge-LONG_RUN.true) (w.result-is ∙ w.are_sound.ensures)
+      | else-words-ge-LONG_RUN w ↦
+          rw (lt-leb long_run words w.if-words-ge-LONG_RUN.false)
+          (w.result-is ∙ lt-leb long_run words w.if-words-ge-LONG_RUN.false)
+    ]))

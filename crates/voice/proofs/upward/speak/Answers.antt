@@ -9,13 +9,13 @@ pub returns-else-room-lt2 : goal.returns-else-room-lt2
 returns-else-room-lt2 c =
     let a = c.args in
     let m = c.lifted-message in
-    let z = message-sent a.past a.w a.«record» a.out.now m.result m.ensures c.if-message.true
+    let z = message-sent a.past a.w a.«record» a.out.now m.result m.ensures _ c.in-Some.is
     (omega (arith, c.if-room-lt2.false, c.room.ensures)) (omega (
       arith,
       c.if-room-lt2.false,
       c.room.ensures,
     )) in
-    rw (c.acts.ensures, c.report-then-message.ensures) record {
+    rw (c.acts.ensures, c.report-in-Some.ensures) record {
       turn = z.0;
       output = simp unary_clauses z.1;
     }

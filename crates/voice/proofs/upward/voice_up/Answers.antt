@@ -6,25 +6,30 @@ use mathlib.Core.Bool.{◌||◌}
 use Rattle.channel.specs.Record.{sound}
 use Rattle.voice.proofs.TurnLaws.{check-refused, may-not-speak, may-speak}
 use Rattle.voice.proofs.upward.voice_up.Goals as goal
+use Rattle.voice.proofs.upward.voice_up.Goals.{then-known, else-known}
 
-pub returns-then-is_found_sound : goal.returns-then-is_found_sound
-returns-then-is_found_sound c =
+pub returns-then-is_sound : goal.returns-then-is_sound
+returns-then-is_sound c =
     let a = c.args in
     let x = c.screen_voice1-screened in
-    let k = c.is_found_sound in
     rw (may-speak a.rule (a.known || sound a.«record») a.past a.w a.«record» a.out.now x.result
     c.requires.1 x.ensures c.if-screened-eq-GOES_ON.true
-    (sym k.ensures ∙ c.if-is_found_sound.true)) c.speak.ensures
+    (elim c.if-known.branch [
+      | then-known w ↦ rw w.if-known.true (sym w.if-known.true ∙ sym w.value-is ∙ c.if-is_sound.true)
+      | else-known w ↦ rw w.if-known.false (sym w.is_sound.ensures ∙ sym w.value-is ∙ c.if-is_sound.true)
+    ])) c.speak.ensures
 
-pub returns-else-is_found_sound : goal.returns-else-is_found_sound
-returns-else-is_found_sound c =
+pub returns-else-is_sound : goal.returns-else-is_sound
+returns-else-is_sound c =
     let a = c.args in
     let x = c.screen_voice1-screened in
-    let k = c.is_found_sound in
     rw (c.stays.ensures, c.report.ensures)
     (let z = may-not-speak a.rule (a.known || sound a.«record») a.past a.w a.«record» a.out.now x.result
     c.requires.1 x.ensures c.if-screened-eq-GOES_ON.true
-    (sym k.ensures ∙ c.if-is_found_sound.false) in
+    (elim c.if-known.branch [
+      | then-known w ↦ rw w.if-known.true (sym w.if-known.true ∙ sym w.value-is ∙ c.if-is_sound.false)
+      | else-known w ↦ rw w.if-known.false (sym w.is_sound.ensures ∙ sym w.value-is ∙ c.if-is_sound.false)
+    ]) in
     record { turn = z.0; output = z.1 })
 
 pub returns-else-screened-eq-GOES_ON : goal.returns-else-screened-eq-GOES_ON
