@@ -21,6 +21,7 @@ use Rattle.screen.specs.declared.Rule.{Rule}
 use Rattle.screen.specs.Screen.{Screened}
 use Rattle.fields.specs.Check.{Field, bad_place, bad_place_of, checked_fields, good_fields, good_status, unchanged}
 use Rattle.std.specs.Prelude.{Option, Some, None, Ok, Err, is_some}
+use Rattle.screen.specs.declared.Refusal.{Refusal}
 use Rattle.screen.specs.Screen.{beyond, judged, admitted, answering, beginners_rule, check_voice1, checking, for_beginners}
 use Rattle.screen.specs.Screen.{fenced_rule, goes_on, outside, reserved, ruled, screen, screen_by, screen_voice1, screened}
 
@@ -189,3 +190,17 @@ judged-good s e = rw e
 pub judged-bad : (s : Screened) → eqb s.answer goes_on ≡ false
     → judged s ≡ Err (record { answer = s.answer; place = s.place })
 judged-bad s e = rw e
+
+-- and what a result says of the screening that it is of
+pub judged-ok : (s : Screened) → judged s ≡ Ok tt → s.answer ≡ goes_on
+judged-ok s h = by_bool (eqb s.answer goes_on) (λ e. eqb-true s.answer goes_on e)
+    (λ e. let bad = sym h ∙ judged-bad s e in absurd (cc bad))
+
+pub judged-err : (s : Screened) (x : Refusal) → judged s ≡ Err x
+    → (s.answer ≡ goes_on → ⊥) × ((x.answer ≡ s.answer) × (x.place ≡ s.place))
+judged-err s x h = by_bool (eqb s.answer goes_on)
+    (λ e. let good = sym h ∙ judged-good s e in absurd (cc good))
+    (λ e. let bad = sym h ∙ judged-bad s e in
+        let answer : x.answer ≡ s.answer = cc bad in
+        let place : x.place ≡ s.place = cc bad in
+        (eqb-false s.answer goes_on e, (answer, place)))
