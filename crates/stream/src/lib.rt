@@ -12,6 +12,9 @@ ghost use Rattle.stream.specs.Report.{counting, placing};
 
 pub use calls::{Calls, run_calls};
 
+// Kept: the answers are numbers, since every report crosses to C with its answer in it, and an enum as wide as a C
+// number is not in the language.
+
 // Sent; of a run: finished.
 pub const SENT: u32 = 0;
 
