@@ -2,7 +2,7 @@
 -- and its bytes. Assumes nothing.
 use Prim.Native.Nat.{ℕ, ◌+◌, ◌-◌, ◌<◌, ◌≤◌}
 use mathlib.Core.Path.{◌≡◌, refl, sym, ap, ◌∙◌}
-use mathlib.Core.Bool.{false, not, ◌&&◌}
+use mathlib.Core.Bool.{Bool, true, false, cond, not, ◌&&◌}
 use mathlib.Core.List.{List}
 use mathlib.Core.Logic.{◌⊎◌, inl, inr}
 use native.Mathlib.Omega.{arith}
@@ -21,7 +21,8 @@ use Rattle.piece.specs.Piece.{slot_by}
 use Rattle.piece.specs.Piece.{strange_address}
 use Rattle.piece.proofs.PieceLaws.{slot-chain}
 use Rattle.chains.specs.Collect.{chain_of, piece_of, refusal_of, sort_by, sorted}
-use Rattle.chains.specs.Turn.{Standing, piece_at}
+use Rattle.std.specs.Prelude.{None, Some}
+use Rattle.chains.specs.Turn.{Standing, piece_at, whole_by}
 use Rattle.chains.proofs.AskLaws.{asked-exclusive, asked-flex, asked-none, good-other, good-voice1, good-voice2}
 use Rattle.chains.proofs.WithinLaws.{piece-low}
 
@@ -51,6 +52,21 @@ module _ (ws : List ℕ) (at : ℕ) where
     pub first_of : first (packet (drop at ws)) ≡ get_or ws at 0
     first_of = word_of 0 (omega (arith, (size-range (get_or ws at 0)).0))
         ∙ ap (λ (i : ℕ). get_or ws i 0) {x = at + 0} {y = at} (omega arith)
+
+-- how many words there are, where the packet is whole
+pub cut_none : (m : ℕ) → whole_by m ≡ None → m ≡ 0
+cut_none m = go (eqb m 0) refl
+  where
+    go : (t : Bool) → eqb m 0 ≡ t → cond t None (Some m) ≡ None → m ≡ 0
+    go true e f = eqb-true m 0 e
+    go false e f = absurd (cc)
+
+pub whole-some : (m n : ℕ) → whole_by m ≡ Some n → (n ≡ m) × (n ≡ 0 → ⊥)
+whole-some m n = go (eqb m 0) refl
+  where
+    go : (t : Bool) → eqb m 0 ≡ t → cond t None (Some m) ≡ Some n → (n ≡ m) × (n ≡ 0 → ⊥)
+    go true e f = absurd (cc)
+    go false e f = let k : n ≡ m = cc in (k, λ z. eqb-false m 0 e (sym k ∙ z))
 
 -- the sizes of the types that are asked
 pub size-two : (w : ℕ) → (message_type w ≡ exclusive) ⊎ (message_type w ≡ voice2) → size w ≡ 2

@@ -10,7 +10,7 @@ use Rattle.piece.specs.Piece.{Piece, flex, piece_for}
 use Rattle.chains.specs.declared.Chain.{Chain}
 use Rattle.chains.specs.declared.Collected.{Collected}
 use Rattle.chains.specs.declared.Called.{Called}
-use Rattle.std.specs.Prelude.{None, Some}
+use Rattle.std.specs.Prelude.{None, Option, Some}
 use Rattle.std.specs.declared.ops.ControlFlow.{ControlFlow}
 use Rattle.std.specs.declared.ops.ControlFlow.TheVariants.{Break, Continue}
 use Rattle.chains.specs.declared.Turned.{Turned}
@@ -52,6 +52,10 @@ besides a place read = beside (record { answer = a; place = place }) read
 abbrev pub named_by : ℕ → ℕ → ℕ → ℕ → Chain → Collected
 named_by a read k n c =
     record { answer = a; place = 0; read = read; chain = k; start = k * n; length = c.length }
+
+-- how many words a packet has, by their number, which is 0 where it is cut
+abbrev pub whole_by : ℕ → Option ℕ
+whole_by n = cond (eqb n 0) None (Some n)
 
 -- whether a chain is asked about the packet that stands first
 abbrev pub is_asked : List ℕ → Bool

@@ -8,6 +8,7 @@ ghost use Rattle.fields.specs.Check.{good_unchanged};
 ghost use Rattle.screen.specs.Screen.{goes_on, neither_type, screen};
 ghost use Rattle.piece.specs.Piece.{exclusive};
 ghost use Rattle.chains.specs.Collect.{refusal_of};
+ghost use Rattle.chains.specs.Turn.{whole_by};
 
 use piece::{EXCLUSIVE, FLEX, has_strange_address};
 use ump::{MIDI1_VOICE, MIDI2_VOICE, byte1, byte2, byte3, byte4, message_type, size};
@@ -15,18 +16,18 @@ use ump::{MIDI1_VOICE, MIDI2_VOICE, byte1, byte2, byte3, byte4, message_type, si
 // The most that a byte of an exclusive may be.
 const MOST: u8 = 127;
 
-// The words of the packet at a place, none where it is cut or the place is past the end.
-pub(crate) fn whole_size(words: &[u32], at: usize) -> usize
-    ensures { result ≡ length (packet (drop at words.now)) }
+// How many words the packet at a place has, where it is whole.
+pub(crate) fn whole_size(words: &[u32], at: usize) -> Option<usize>
+    ensures { result ≡ whole_by (length (packet (drop at words.now))) }
 {
     if words.len() <= at {
-        return 0;
+        return None;
     }
     let n = size(words[at]);
     if words.len() - at < n {
-        return 0;
+        return None;
     }
-    n
+    Some(n)
 }
 
 // Whether the status and the six bytes of an exclusive's packet are good, which most of them have.

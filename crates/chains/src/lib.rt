@@ -93,7 +93,7 @@ pub fn slot_at(words: &[u32], at: usize) -> usize
 pub fn is_dropping(answer: u32) -> bool
     ensures { result ≡ drops answer }
 {
-    (answer == OUT_OF_TURN) | ((answer == TOO_MANY_PACKETS) | (answer == TOO_LONG))
+    matches!(answer, OUT_OF_TURN | TOO_MANY_PACKETS | TOO_LONG)
 }
 
 // The report of a packet that names no chain.
@@ -157,13 +157,12 @@ pub fn call(c: Chain, words: &[u32], buffer: &mut [u8]) -> Called
     ensures called { result ≡ called_with c buffer.old words.now }
     ensures buffer { buffer.new ≡ buffer_with c buffer.old words.now }
 {
-    let n = whole_size(words, 0);
-    if n == 0 {
+    let Some(n) = whole_size(words, 0) else {
         return Called {
             report: beside(CUT, 0, 0),
             chain: c,
         };
-    }
+    };
     if is_asked(words, 0) {
         let k = slot_of(words[0]);
         let step = take(c, buffer, k, words, 0);

@@ -26,6 +26,18 @@ pub(crate) enum Refusal {
     TooLong,
 }
 
+impl From<Refusal> for u32 {
+    ghost from_gives = { λ refusal answer. answer ≡ number_of refusal };
+
+    fn from(refusal: Refusal) -> u32 {
+        match refusal {
+            Refusal::OutOfTurn => OUT_OF_TURN,
+            Refusal::TooManyPackets => TOO_MANY_PACKETS,
+            Refusal::TooLong => TOO_LONG,
+        }
+    }
+}
+
 // A step on one chain: what it answers, and the chain after it.
 #[derive(Clone, Copy)]
 pub(crate) struct Stepped {
@@ -116,16 +128,6 @@ fn answer_taken(x: Head) -> u32
     ensures { result ≡ cond (finishes (bare x)) sent taken_in }
 {
     if is_last(x) { SENT } else { TAKEN_IN }
-}
-
-fn answer_refused(refusal: Refusal) -> u32
-    ensures { result ≡ number_of refusal }
-{
-    match refusal {
-        Refusal::OutOfTurn => OUT_OF_TURN,
-        Refusal::TooManyPackets => TOO_MANY_PACKETS,
-        Refusal::TooLong => TOO_LONG,
-    }
 }
 
 // The chain after a refusal: with none open nothing is dropped.
@@ -230,7 +232,7 @@ fn step(c: Chain, part: &mut [u8], words: &[u32], at: usize) -> Stepped
             }
         }
         Err(refusal) => Stepped {
-            answer: answer_refused(refusal),
+            answer: u32::from(refusal),
             chain: refused(refusal, c),
         },
     }

@@ -50,13 +50,12 @@ pub fn turn(c: Chain, words: &[u32], at: usize, buffer: &mut [u8]) -> Turned
     ensures turned { result ≡ turned_at c buffer.old words.now at }
     ensures buffer { buffer.new ≡ buffer_with c buffer.old (drop at words.now) }
 {
-    let n = whole_size(words, at);
-    if n == 0 {
+    let Some(n) = whole_size(words, at) else {
         return Turned {
             progress: Progress::Break(beside(CUT, 0, at)),
             chain: None,
         };
-    }
+    };
     let end = at + n;
     if is_asked(words, at) {
         let k = slot_of(words[at]);

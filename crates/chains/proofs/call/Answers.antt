@@ -10,24 +10,24 @@ use Rattle.chains.specs.Collect.{refusal_of}
 use Rattle.chains.specs.Turn.{named_by}
 use Rattle.chains.proofs.CollectLaws.{buffer-same, chain_same}
 use Rattle.chains.proofs.WithinLaws.{buffer-length}
-use Rattle.chains.proofs.StandLaws.{piece-some, standing, whole-at}
+use Rattle.chains.proofs.StandLaws.{cut_none, piece-some, standing, whole-at, whole-some}
 use Rattle.chains.proofs.TurnLaws.{buffer-asked, called_is, chain-asked, report-asked}
 use Rattle.chains.proofs.TurnLaws.{report-cut}
 use Rattle.chains.proofs.call.Goals as goal
 
-pub returns-then-n-eq0-clause-called : goal.returns-then-n-eq0-clause-called
-returns-then-n-eq0-clause-called c =
+pub returns-in_default-clause-called : goal.returns-in_default-clause-called
+returns-in_default-clause-called c =
     let a = c.args in
     let ws = a.words.now in
-    let z = sym c.whole_size-n.ensures ∙ c.if-n-eq0.true in
+    let z = cut_none _ (sym c.whole_size.ensures ∙ c.in_default.is) in
     let e : refusal_of ws ≡ goes_on → ⊥ = λ f. piece-some ws f z in
     called_is a.c a.buffer.now ws _ _ (c.beside.ensures ∙ sym (report-cut a.c _ ws z)) (sym (chain_same a.c _ ws e))
 
-pub returns-then-n-eq0-clause-buffer : goal.returns-then-n-eq0-clause-buffer
-returns-then-n-eq0-clause-buffer c =
+pub returns-in_default-clause-buffer : goal.returns-in_default-clause-buffer
+returns-in_default-clause-buffer c =
     let a = c.args in
     let ws = a.words.now in
-    let z = sym c.whole_size-n.ensures ∙ c.if-n-eq0.true in
+    let z = cut_none _ (sym c.whole_size.ensures ∙ c.in_default.is) in
     let e : refusal_of ws ≡ goes_on → ⊥ = λ f. piece-some ws f z in
     sym (buffer-same a.c a.buffer.now ws e)
 
@@ -57,9 +57,9 @@ returns-then-is_asked-clause-called c =
     let k = c.slot_of-k.ensures in
     let m = t.ensures.buffer ∙ buffer-asked a.c b ws 0 _ e k in
     let l = ap length m ∙ buffer-length a.c b ws in
-    let n = c.whole_size-n.ensures in
+    let n = (whole-some _ _ (sym c.whole_size.ensures ∙ c.in-Some.is)).0 in
     let r = c.named.ensures
-    ∙ ap (λ (x : ℕ). named_by t.result.answer c.whole_size-n.result c.slot_of-k.result (x / 32) t.result.chain) l
+    ∙ ap (λ (x : ℕ). named_by t.result.answer c.in-Some.n c.slot_of-k.result (x / 32) t.result.chain) l
     ∙ report-asked a.c b ws 0 e _ t.ensures.step _ _ n k in
     called_is a.c b ws _ _ r (chain-asked a.c b ws 0 e _ t.ensures.step)
 
@@ -74,7 +74,8 @@ pub aside-requires : goal.aside-requires
 aside-requires c =
     let ws = c.args.words.now in
     let e = eqb-false (refusal_of ws) goes_on (sym c.is_asked.ensures ∙ c.if-is_asked.false) in
-    (c.whole_size-n.ensures, c.if-n-eq0.false, e, omega arith)
+    let n = whole-some _ _ (sym c.whole_size.ensures ∙ c.in-Some.is) in
+    (n.0, n.1, e, omega arith)
 
 pub returns-clause-called : goal.returns-clause-called
 returns-clause-called c =

@@ -47,7 +47,7 @@ returns-in-Err-clause-step c =
     let a = c.args in
     let h = c.head_of-x.ensures ∙ sym (head-any (get_or a.words.now a.at 0) _ _ _) in
     let e = rw c.in-Err.is at c.check.ensures in
-    rw c.answer_refused.ensures
+    rw c.from.ensures
     (head-refused a.c (length a.part.now) (piece_at a.words.now a.at) _ h _ e _ (refusal-high _) c.refused.ensures)
 
 pub returns-in-Err-clause-part : goal.returns-in-Err-clause-part

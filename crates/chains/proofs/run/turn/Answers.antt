@@ -11,7 +11,7 @@ use Rattle.chains.specs.Collect.{refusal_of}
 use Rattle.chains.specs.Turn.{named_by}
 use Rattle.chains.proofs.CollectLaws.{buffer-same}
 use Rattle.chains.proofs.WithinLaws.{buffer-length}
-use Rattle.chains.proofs.StandLaws.{piece-some, standing, whole-at}
+use Rattle.chains.proofs.StandLaws.{cut_none, piece-some, standing, whole-at, whole-some}
 use Rattle.ump.specs.Packet.{packet}
 use Rattle.ump.proofs.PacketLaws.{packet-length}
 use Rattle.std.specs.declared.ops.ControlFlow.TheVariants.{Break}
@@ -20,20 +20,20 @@ use Rattle.chains.proofs.TurnLaws.{buffer-asked, chain-asked, progress-asked, pr
 use Rattle.chains.proofs.TurnLaws.{progress-other, report-asked, turned-aside, turned-asked}
 use Rattle.chains.proofs.run.turn.Goals as goal
 
-pub returns-then-n-eq0-clause-turned : goal.returns-then-n-eq0-clause-turned
-returns-then-n-eq0-clause-turned c =
+pub returns-in_default-clause-turned : goal.returns-in_default-clause-turned
+returns-in_default-clause-turned c =
     let a = c.args in
     let ws = a.words.now in
-    let z = sym c.whole_size-n.ensures ∙ c.if-n-eq0.true in
+    let z = cut_none _ (sym c.whole_size.ensures ∙ c.in_default.is) in
     let e : refusal_of (drop a.at ws) ≡ goes_on → ⊥ = λ f. piece-some (drop a.at ws) f z in
     turned-aside a.c a.buffer.now ws a.at _
     (ap (λ (x : Collected). Break x) c.beside.ensures ∙ progress-cut a.c a.at _ _ (drop a.at ws) z) e
 
-pub returns-then-n-eq0-clause-buffer : goal.returns-then-n-eq0-clause-buffer
-returns-then-n-eq0-clause-buffer c =
+pub returns-in_default-clause-buffer : goal.returns-in_default-clause-buffer
+returns-in_default-clause-buffer c =
     let a = c.args in
     let ws = a.words.now in
-    let z = sym c.whole_size-n.ensures ∙ c.if-n-eq0.true in
+    let z = cut_none _ (sym c.whole_size.ensures ∙ c.in_default.is) in
     let e : refusal_of (drop a.at ws) ≡ goes_on → ⊥ = λ f. piece-some (drop a.at ws) f z in
     sym (buffer-same a.c a.buffer.now (drop a.at ws) e)
 
@@ -41,7 +41,8 @@ pub overflow_add-end : goal.overflow_add-end
 overflow_add-end c =
     let a = c.args in
     let ws = a.words.now in
-    omega (arith, c.whole_size-n.ensures, packet-length (drop a.at ws), length-drop a.at ws)
+    let n = (whole-some _ _ (sym c.whole_size.ensures ∙ c.in-Some.is)).0 in
+    omega (arith, n, packet-length (drop a.at ws), length-drop a.at ws)
 
 pub offset_bounds-words-at : goal.offset_bounds-words-at
 offset_bounds-words-at c =
@@ -78,9 +79,9 @@ returns-then-is_asked-clause-turned c =
     let k = c.slot_of-k.ensures in
     let m = t.ensures.buffer ∙ buffer-asked a.c b ws a.at _ e k in
     let l = ap length m ∙ buffer-length a.c b (drop a.at ws) in
-    let n = c.whole_size-n.ensures in
+    let n = (whole-some _ _ (sym c.whole_size.ensures ∙ c.in-Some.is)).0 in
     let r = c.named.ensures
-    ∙ ap (λ (x : ℕ). named_by t.result.answer (a.at + c.whole_size-n.result) c.slot_of-k.result (x / 32) t.result.chain) l
+    ∙ ap (λ (x : ℕ). named_by t.result.answer (a.at + c.in-Some.n) c.slot_of-k.result (x / 32) t.result.chain) l
     ∙ ap (further a.at) (report-asked a.c b ws a.at e _ t.ensures.step _ _ n k) in
     turned-asked a.c b ws a.at _
     (c.onward.ensures ∙ progress-asked a.c a.at (length ws) _ (drop a.at ws) e _ r) _ e
@@ -98,8 +99,9 @@ returns-clause-turned c =
     let a = c.args in
     let ws = a.words.now in
     let e = eqb-false (refusal_of (drop a.at ws)) goes_on (sym c.is_asked.ensures ∙ c.if-is_asked.false) in
-    let n = c.whole_size-n.ensures in
-    let some : length (packet (drop a.at ws)) ≡ 0 → ⊥ = λ z. c.if-n-eq0.false (n ∙ z) in
+    let w = whole-some _ _ (sym c.whole_size.ensures ∙ c.in-Some.is) in
+    let n = w.0 in
+    let some : length (packet (drop a.at ws)) ≡ 0 → ⊥ = λ z. w.1 (n ∙ z) in
     turned-aside a.c a.buffer.now ws a.at _
     (c.going_on.ensures ∙ rw n (progress-other a.c a.at _ _ (drop a.at ws) some e)) e
 
