@@ -162,42 +162,17 @@ fn put_flex(part: &mut [u8], base: usize, words: &[u32], at: usize)
     put_word(part, base + 8, words[at + 3]);
 }
 
-// Stores the six bytes that most packets of an exclusive have.
-fn put_six(part: &mut [u8], base: usize, words: &[u32], at: usize)
-    requires { (base + 6 ≤ length part.old) × (at + 2 ≤ length words.now) }
-    ensures { part.new ≡ paste part.old base
-        (exclusive_bytes (get_or words.now at 0) (get_or words.now (at + 1) 0)) 6 }
-{
-    part[base] = byte3(words[at]);
-    part[base + 1] = byte4(words[at]);
-    put_word(part, base + 2, words[at + 1]);
-}
-
-// Stores the first bytes of an exclusive's packet, where it has fewer than six.
-fn put_some(part: &mut [u8], base: usize, w: u32, v: u32, n: usize)
-    requires { (base + n ≤ length part.old) × (n < 6) }
+// Stores the first bytes of an exclusive's packet, of which most packets have all six.
+fn put_exclusive(part: &mut [u8], base: usize, w: u32, v: u32, n: usize)
+    requires { (base + n ≤ length part.old) × (n ≤ 6) }
     ensures { part.new ≡ paste part.old base (exclusive_bytes w v) n }
 {
-    if n == 0 {
+    let bytes = [byte3(w), byte4(w), byte1(v), byte2(v), byte3(v), byte4(v)];
+    if n == EXCLUSIVE_BYTES {
+        part[base..base + EXCLUSIVE_BYTES].copy_from_slice(&bytes);
         return;
     }
-    part[base] = byte3(w);
-    if n == 1 {
-        return;
-    }
-    part[base + 1] = byte4(w);
-    if n == 2 {
-        return;
-    }
-    part[base + 2] = byte1(v);
-    if n == 3 {
-        return;
-    }
-    part[base + 3] = byte2(v);
-    if n == 4 {
-        return;
-    }
-    part[base + 4] = byte3(v);
+    part[base..base + n].copy_from_slice(&bytes[..n]);
 }
 
 // Stores the bytes of the piece at a place of the words, so many as it has.
@@ -209,11 +184,7 @@ fn put(part: &mut [u8], base: usize, words: &[u32], at: usize, n: usize)
         put_flex(part, base, words, at);
         return;
     }
-    if n == EXCLUSIVE_BYTES {
-        put_six(part, base, words, at);
-        return;
-    }
-    put_some(part, base, words[at], words[at + 1], n);
+    put_exclusive(part, base, words[at], words[at + 1], n);
 }
 
 // The step with the piece at a place of the words. One that is taken is stored in the chain's part.

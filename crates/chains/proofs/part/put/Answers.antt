@@ -22,22 +22,14 @@ returns-then-message_type-eq-FLEX c =
     let x = flex-bytes a.words.now a.at e in
     c.put_flex.ensures ∙ rw (x.0, q.2, x.1)
 
-pub returns-then-n-eq-EXCLUSIVE_BYTES : goal.returns-then-n-eq-EXCLUSIVE_BYTES
-returns-then-n-eq-EXCLUSIVE_BYTES c =
-    let a = c.args in
-    let n : message_type (get_or a.words.now a.at 0) ≡ flex → ⊥ =
-    λ e. c.if-message_type-eq-FLEX.false (c.message_type.ensures ∙ e) in
-    let x = exclusive-bytes a.words.now a.at n in
-    c.put_six.ensures ∙ rw (x.0, c.if-n-eq-EXCLUSIVE_BYTES.true)
-
-pub put_some-requires : goal.put_some-requires
-put_some-requires c =
+pub put_exclusive-requires : goal.put_exclusive-requires
+put_exclusive-requires c =
     let a = c.args in
     let q = c.requires in
     let n : message_type (get_or a.words.now a.at 0) ≡ flex → ⊥ =
     λ e. c.if-message_type-eq-FLEX.false (c.message_type.ensures ∙ e) in
     let x = exclusive-bytes a.words.now a.at n in
-    (q.1, omega (arith, q.2, x.1, c.if-n-eq-EXCLUSIVE_BYTES.false))
+    (q.1, omega (arith, q.2, x.1))
 
 pub returns : goal.returns
 returns c =
@@ -45,4 +37,4 @@ returns c =
     let n : message_type (get_or a.words.now a.at 0) ≡ flex → ⊥ =
     λ e. c.if-message_type-eq-FLEX.false (c.message_type.ensures ∙ e) in
     let x = exclusive-bytes a.words.now a.at n in
-    c.put_some.ensures ∙ rw x.0
+    c.put_exclusive.ensures ∙ rw x.0
