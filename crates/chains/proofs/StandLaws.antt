@@ -7,8 +7,9 @@ use mathlib.Core.List.{List}
 use mathlib.Core.Logic.{◌⊎◌, inl, inr}
 use native.Mathlib.Omega.{arith}
 use lib.Dec.{eqb, leb, ltb}
-use lib.ListN.{get_or-eq_default, drop, get_or, length, take, length-drop}
-use lib.Seq.{get_or-drop, get_or-take, length-take-le}
+use lib.ListN.{get_or-eq_default, drop_of_length-le, drop, get_or, length, take, length-drop}
+use lib.Seq.{get_or-drop, get_or-take, length-take-le, take_all}
+use Rattle.std.proofs.Common.{min}
 use borrow.Author.Tests.{eq-eqb, eqb-false, eqb-true, leb-false, leb-true, ltb-false, ltb-true, ne_eqb}
 use Rattle.ground.proofs.Cases.{by_bool, not-both}
 use Rattle.ump.specs.Word.{message_type, voice1, voice2}
@@ -52,6 +53,15 @@ module _ (ws : List ℕ) (at : ℕ) where
     pub first_of : first (packet (drop at ws)) ≡ get_or ws at 0
     first_of = word_of 0 (omega (arith, (size-range (get_or ws at 0)).0))
         ∙ ap (λ (i : ℕ). get_or ws i 0) {x = at + 0} {y = at} (omega arith)
+
+-- the words from a place on, none where it is past their end
+pub rest_from : (ws : List ℕ) (at m : ℕ) → m ≡ min at (length ws) → take (length ws - m) (drop m ws) ≡ drop at ws
+rest_from ws at m e =
+    take_all (length ws - m) (drop m ws) (omega (arith, length-drop m ws))
+    ∙ by_bool (leb (length ws) at)
+    (λ h. let k = leb-true (length ws) at h in
+    drop_of_length-le ws {i = m} (omega arith) ∙ sym (drop_of_length-le ws {i = at} k))
+    (λ h. let k = leb-false (length ws) at h in let i : m ≡ at = omega arith in ap (λ (n : ℕ). drop n ws) i)
 
 -- how many words there are, where the packet is whole
 pub cut_none : (m : ℕ) → whole_by m ≡ None → m ≡ 0

@@ -198,14 +198,14 @@ module _ (c : Chain) (at n m : ℕ) (s : List ℕ) where
       rw (answer-other c m s e, q.0, q.1, q.2, and-false (not (eqb c.packets 0)), reads c m s)
 
 -- a turn as its function makes it
-module _ (c : Chain) (b ws : List ℕ) (at : ℕ) (t : Progress)
-    (goes : t ≡ progress_after c at (length ws) (report_with c (share b) (drop at ws))) where
-  pub turned-asked : (g : Chain) → refusal_of (drop at ws) ≡ goes_on → g ≡ chain_with c (share b) (drop at ws)
+module _ (c : Chain) (b ws : List ℕ) (at : ℕ) (s : List ℕ) (from : s ≡ drop at ws) (t : Progress)
+    (goes : t ≡ progress_after c at (length ws) (report_with c (share b) s)) where
+  pub turned-asked : (g : Chain) → refusal_of s ≡ goes_on → g ≡ chain_with c (share b) s
       → ◌≡◌ {A = Turned} (record { progress = t; chain = Some g }) (turned_at c b ws at)
   unfolding turned_at
-  turned-asked g e f = rw (goes, f, eq-eqb (refusal_of (drop at ws)) goes_on e)
+  turned-asked g e f = rw (goes, f, ← from, eq-eqb (refusal_of s) goes_on e)
 
-  pub turned-aside : (refusal_of (drop at ws) ≡ goes_on → ⊥)
+  pub turned-aside : (refusal_of s ≡ goes_on → ⊥)
       → ◌≡◌ {A = Turned} (record { progress = t; chain = None }) (turned_at c b ws at)
   unfolding turned_at
-  turned-aside n = rw (goes, ne_eqb (refusal_of (drop at ws)) goes_on n)
+  turned-aside n = rw (goes, ← from, ne_eqb (refusal_of s) goes_on n)

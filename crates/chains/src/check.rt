@@ -1,6 +1,6 @@
 // What is asked of a packet before its chain: a yes or no, since most packets are of no chain, and what
 // refuses one is worked out only where it is refused.
-ghost use Rattle.std.specs.Prelude.{◌≡◌, ◌&&◌, eqb, leb, drop, length};
+ghost use Rattle.std.specs.Prelude.{◌≡◌, ◌&&◌, eqb, leb, length};
 ghost use Rattle.ump.specs.Word.{message_type, status};
 ghost use Rattle.ump.specs.Word;
 ghost use Rattle.ump.specs.Packet.{packet};
@@ -16,15 +16,15 @@ use ump::{MIDI1_VOICE, MIDI2_VOICE, byte1, byte2, byte3, byte4, message_type, si
 // The most that a byte of an exclusive may be.
 const MOST: u8 = 127;
 
-// How many words the packet at a place has, where it is whole.
-pub(crate) fn whole_size(words: &[u32], at: usize) -> Option<usize>
-    ensures { result ≡ whole_by (length (packet (drop at words.now))) }
+// How many words the packet at the start of the words has, where it is whole.
+pub(crate) fn whole_size(words: &[u32]) -> Option<usize>
+    ensures { result ≡ whole_by (length (packet words.now)) }
 {
-    if words.len() <= at {
+    if words.is_empty() {
         return None;
     }
-    let n = size(words[at]);
-    if words.len() - at < n {
+    let n = size(words[0]);
+    if words.len() < n {
         return None;
     }
     Some(n)
@@ -53,16 +53,16 @@ fn is_good_exclusive(w: u32, v: u32) -> bool
     fields::is_good_unchanged(w, v)
 }
 
-// Whether the chain of the whole packet at a place is asked: it is a good one of the two sorts, and its
-// address is none of the strange ones.
-pub(crate) fn is_asked(words: &[u32], at: usize) -> bool
-    requires { length (packet (drop at words.now)) ≡ 0 → ⊥ }
-    ensures { result ≡ eqb (refusal_of (drop at words.now)) goes_on }
+// Whether the chain of the whole packet at the start of the words is asked: it is a good one of the two
+// sorts, and its address is none of the strange ones.
+pub(crate) fn is_asked(words: &[u32]) -> bool
+    requires { length (packet words.now) ≡ 0 → ⊥ }
+    ensures { result ≡ eqb (refusal_of words.now) goes_on }
 {
-    let w = words[at];
+    let w = words[0];
     let t = message_type(w);
     if t == EXCLUSIVE {
-        return is_good_exclusive(w, words[at + 1]);
+        return is_good_exclusive(w, words[1]);
     }
     if t == FLEX {
         return !has_strange_address(w);

@@ -157,15 +157,15 @@ pub fn call(c: Chain, words: &[u32], buffer: &mut [u8]) -> Called
     ensures called { result ≡ called_with c buffer.old words.now }
     ensures buffer { buffer.new ≡ buffer_with c buffer.old words.now }
 {
-    let Some(n) = whole_size(words, 0) else {
+    let Some(n) = whole_size(words) else {
         return Called {
             report: beside(CUT, 0, 0),
             chain: c,
         };
     };
-    if is_asked(words, 0) {
+    if is_asked(words) {
         let k = slot_of(words[0]);
-        let step = take(c, buffer, k, words, 0);
+        let step = take(c, buffer, k, words);
         return Called {
             report: named(step.answer, n, k, buffer.len() / CHAINS, step.chain),
             chain: step.chain,

@@ -150,16 +150,15 @@ fn put_word(part: &mut [u8], at: usize, w: u32)
     part[at..at + 4].copy_from_slice(&w.to_be_bytes());
 }
 
-// Stores the twelve bytes of Flex Data, whose packet stands at a place of the words.
-fn put_flex(part: &mut [u8], base: usize, words: &[u32], at: usize)
-    requires { (base + 12 ≤ length part.old) × (at + 4 ≤ length words.now) }
+// Stores the twelve bytes of Flex Data, whose packet the words begin with.
+fn put_flex(part: &mut [u8], base: usize, words: &[u32])
+    requires { (base + 12 ≤ length part.old) × (4 ≤ length words.now) }
     ensures { part.new ≡ paste part.old base
-        (flex_bytes (get_or words.now (at + 1) 0) (get_or words.now (at + 2) 0)
-        (get_or words.now (at + 3) 0)) 12 }
+        (flex_bytes (get_or words.now 1 0) (get_or words.now 2 0) (get_or words.now 3 0)) 12 }
 {
-    put_word(part, base, words[at + 1]);
-    put_word(part, base + 4, words[at + 2]);
-    put_word(part, base + 8, words[at + 3]);
+    put_word(part, base, words[1]);
+    put_word(part, base + 4, words[2]);
+    put_word(part, base + 8, words[3]);
 }
 
 // Stores the first bytes of an exclusive's packet, of which most packets have all six.
@@ -175,28 +174,28 @@ fn put_exclusive(part: &mut [u8], base: usize, w: u32, v: u32, n: usize)
     part[base..base + n].copy_from_slice(&bytes[..n]);
 }
 
-// Stores the bytes of the piece at a place of the words, so many as it has.
-fn put(part: &mut [u8], base: usize, words: &[u32], at: usize, n: usize)
-    requires { Standing words.now at × (base + n ≤ length part.old) × (n ≡ (piece_at words.now at).count) }
-    ensures { part.new ≡ paste part.old base (piece_at words.now at).bytes n }
+// Stores the bytes of the piece that the words begin with, so many as it has.
+fn put(part: &mut [u8], base: usize, words: &[u32], n: usize)
+    requires { Standing words.now 0 × (base + n ≤ length part.old) × (n ≡ (piece_at words.now 0).count) }
+    ensures { part.new ≡ paste part.old base (piece_at words.now 0).bytes n }
 {
-    if message_type(words[at]) == FLEX {
-        put_flex(part, base, words, at);
+    if message_type(words[0]) == FLEX {
+        put_flex(part, base, words);
         return;
     }
-    put_exclusive(part, base, words[at], words[at + 1], n);
+    put_exclusive(part, base, words[0], words[1], n);
 }
 
-// The step with the piece at a place of the words. One that is taken is stored in the chain's part.
-fn step(c: Chain, part: &mut [u8], words: &[u32], at: usize) -> Stepped
-    requires { Standing words.now at }
-    ensures step { result ≡ step_of c (length part.old) (piece_at words.now at) }
-    ensures part { part.new ≡ part_of c part.old (piece_at words.now at) }
+// The step with the piece that the words begin with. One that is taken is stored in the chain's part.
+fn step(c: Chain, part: &mut [u8], words: &[u32]) -> Stepped
+    requires { Standing words.now 0 }
+    ensures step { result ≡ step_of c (length part.old) (piece_at words.now 0) }
+    ensures part { part.new ≡ part_of c part.old (piece_at words.now 0) }
 {
-    let x = head_of(words[at]);
+    let x = head_of(words[0]);
     match check(c, x, part.len()) {
         Ok(()) => {
-            put(part, base_of(c), words, at, x.count);
+            put(part, base_of(c), words, x.count);
             Stepped {
                 answer: answer_taken(x),
                 chain: grown(c, x),
@@ -210,15 +209,15 @@ fn step(c: Chain, part: &mut [u8], words: &[u32], at: usize) -> Stepped
 }
 
 // The same with the whole buffer, for chain k: what is lent to the step is that chain's own part.
-pub(crate) fn take(c: Chain, buffer: &mut [u8], k: usize, words: &[u32], at: usize) -> Stepped
-    requires { (k < 32) × Standing words.now at }
-    ensures step { result ≡ step_of c (share buffer.old) (piece_at words.now at) }
+pub(crate) fn take(c: Chain, buffer: &mut [u8], k: usize, words: &[u32]) -> Stepped
+    requires { (k < 32) × Standing words.now 0 }
+    ensures step { result ≡ step_of c (share buffer.old) (piece_at words.now 0) }
     ensures buffer { buffer.new
-        ≡ with_part k (part_of c (part_at k buffer.old) (piece_at words.now at))
+        ≡ with_part k (part_of c (part_at k buffer.old) (piece_at words.now 0))
         buffer.old }
 {
     let share = buffer.len() / CHAINS;
     let from = k * share;
     let end = from + share;
-    step(c, &mut buffer[from..end], words, at)
+    step(c, &mut buffer[from..end], words)
 }

@@ -50,16 +50,17 @@ pub fn turn(c: Chain, words: &[u32], at: usize, buffer: &mut [u8]) -> Turned
     ensures turned { result ≡ turned_at c buffer.old words.now at }
     ensures buffer { buffer.new ≡ buffer_with c buffer.old (drop at words.now) }
 {
-    let Some(n) = whole_size(words, at) else {
+    let rest = &words[at.min(words.len())..];
+    let Some(n) = whole_size(rest) else {
         return Turned {
             progress: Progress::Break(beside(CUT, 0, at)),
             chain: None,
         };
     };
     let end = at + n;
-    if is_asked(words, at) {
-        let k = slot_of(words[at]);
-        let step = take(c, buffer, k, words, at);
+    if is_asked(rest) {
+        let k = slot_of(rest[0]);
+        let step = take(c, buffer, k, rest);
         return Turned {
             progress: onward(
                 c,

@@ -11,32 +11,32 @@ use Rattle.chains.proofs.part.step.Goals as goal
 pub put-requires : goal.put-requires
 put-requires c =
     let a = c.args in
-    let h = c.head_of-x.ensures ∙ sym (head-any (get_or a.words.now a.at 0) _ _ _) in
+    let h = c.head_of-x.ensures ∙ sym (head-any (get_or a.words.now 0 0) _ _ _) in
     let e = rw c.in-Ok.is at c.check.ensures in
-    let f = head-fits a.c (length a.part.now) (piece_at a.words.now a.at) _ h _ e (piece-fine _ _ _ _ _) (last-low _) in
+    let f = head-fits a.c (length a.part.now) (piece_at a.words.now 0) _ h _ e (piece-fine _ _ _ _ _) (last-low _) in
     (c.requires, rw c.base_of.ensures f.1, ap (λ (x : Head). x.count) h)
 
 pub grown-requires : goal.grown-requires
 grown-requires c =
     let a = c.args in
-    let h = c.head_of-x.ensures ∙ sym (head-any (get_or a.words.now a.at 0) _ _ _) in
+    let h = c.head_of-x.ensures ∙ sym (head-any (get_or a.words.now 0 0) _ _ _) in
     let e = rw c.in-Ok.is at c.check.ensures in
-    let f = head-fits a.c (length a.part.now) (piece_at a.words.now a.at) _ h _ e (piece-fine _ _ _ _ _) (last-low _) in
+    let f = head-fits a.c (length a.part.now) (piece_at a.words.now 0) _ h _ e (piece-fine _ _ _ _ _) (last-low _) in
     (f.0, omega (arith, f.1))
 
 pub returns-in-Ok-clause-step : goal.returns-in-Ok-clause-step
 returns-in-Ok-clause-step c =
     let a = c.args in
-    let h = c.head_of-x.ensures ∙ sym (head-any (get_or a.words.now a.at 0) _ _ _) in
+    let h = c.head_of-x.ensures ∙ sym (head-any (get_or a.words.now 0 0) _ _ _) in
     let e = rw c.in-Ok.is at c.check.ensures in
     rw c.answer_taken.ensures
-    (head-taken a.c (length a.part.now) (piece_at a.words.now a.at) _ h _ e _ (last-low _) c.grown.ensures)
+    (head-taken a.c (length a.part.now) (piece_at a.words.now 0) _ h _ e _ (last-low _) c.grown.ensures)
 
 pub returns-in-Ok-clause-part : goal.returns-in-Ok-clause-part
 returns-in-Ok-clause-part c =
     let a = c.args in
-    let x = piece_at a.words.now a.at in
-    let h = c.head_of-x.ensures ∙ sym (head-any (get_or a.words.now a.at 0) _ _ _) in
+    let x = piece_at a.words.now 0 in
+    let h = c.head_of-x.ensures ∙ sym (head-any (get_or a.words.now 0 0) _ _ _) in
     let e = rw c.in-Ok.is at c.check.ensures in
     let v = head-verdict a.c (length a.part.now) x _ h _ e in
     c.put.ensures
@@ -45,16 +45,16 @@ returns-in-Ok-clause-part c =
 pub returns-in-Err-clause-step : goal.returns-in-Err-clause-step
 returns-in-Err-clause-step c =
     let a = c.args in
-    let h = c.head_of-x.ensures ∙ sym (head-any (get_or a.words.now a.at 0) _ _ _) in
+    let h = c.head_of-x.ensures ∙ sym (head-any (get_or a.words.now 0 0) _ _ _) in
     let e = rw c.in-Err.is at c.check.ensures in
     rw c.from.ensures
-    (head-refused a.c (length a.part.now) (piece_at a.words.now a.at) _ h _ e _ (refusal-high _) c.refused.ensures)
+    (head-refused a.c (length a.part.now) (piece_at a.words.now 0) _ h _ e _ (refusal-high _) c.refused.ensures)
 
 pub returns-in-Err-clause-part : goal.returns-in-Err-clause-part
 returns-in-Err-clause-part c =
     let a = c.args in
-    let x = piece_at a.words.now a.at in
-    let h = c.head_of-x.ensures ∙ sym (head-any (get_or a.words.now a.at 0) _ _ _) in
+    let x = piece_at a.words.now 0 in
+    let h = c.head_of-x.ensures ∙ sym (head-any (get_or a.words.now 0 0) _ _ _) in
     let e = rw c.in-Err.is at c.check.ensures in
     let v = head-verdict a.c (length a.part.now) x _ h _ e in
     part-refused a.c x _ a.part.now v (refusal-high _)
