@@ -44,7 +44,7 @@ found p = screen neither_type p
 abbrev pub passes : List ℕ → Bool
 passes p = (found p).answer == goes_on
 
-unfoldable pub kept_of : List ℕ → List ℕ
+abbrev pub kept_of : List ℕ → List ℕ
 kept_of p = cond (passes p) p []
 
 -- a JR Timestamp, by its first word: message type 0 and status 2, with the stamp in the low half (004 section 7.2.2)

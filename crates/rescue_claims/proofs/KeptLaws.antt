@@ -36,7 +36,7 @@ unfolding screen_by
 none_passes = refl
 
 pub kept_run : (ps : List (List ℕ)) → Tidy ps → (run keep tt ps).sends ≡ joined (kept_packets ps)
-unfolding run kept_packets kept_of
+unfolding run kept_packets
 kept_run [] d = refl
 kept_run (p ∷ ps) (inr d) = rw (keep-stops tt p d.0, short_none p d.0, none_passes, d.1)
 kept_run (p ∷ ps) (inl d) =
@@ -45,7 +45,7 @@ kept_run (p ∷ ps) (inl d) =
 
 -- a packet keeps no more words than it has, and none stops for want of room
 few : (t : Unit {0}) (p : List ℕ) → length (sent_of (keep t p)) ≤ 1 * length p
-unfolding keep kept_of
+unfolding keep
 few t p =
     let l = packet-length p in
     choose (λ (c : Call (Unit {0})). length (sent_of c) ≤ 1 * length p) (lib.Dec.eqb (length (packet p)) 0) (λ _. omega arith)

@@ -17,6 +17,10 @@ rowed p row u = cond (eqb (length p) 0) (stopped cut_packet) (went sent row u)
 abbrev pub handed : ℕ → List ℕ → Call (ℕ × Unit {0})
 handed room p = fit room (went sent p tt)
 
+-- what is said of a packet after what went before it, with room for so many bytes
+abbrev pub said : ℕ → Past → List ℕ → Call (ℕ × Past)
+said room past p = fit room (went sent (text_of (line_of past p)) (past_after past p))
+
 -- the packet that stands first in the words left is kept or not
 unfoldable pub keep : Unit {0} → List ℕ → Call (Unit {0})
 keep t s = rowed (packet s) (kept_of (packet s)) tt

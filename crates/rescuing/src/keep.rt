@@ -14,11 +14,10 @@ use stream::{CUT, Done, NO_ROOM, SENT, report};
 // Hands a packet on, if there is room for it.
 fn keep(row: &[u32], past: Done, out: &mut [u32]) -> Done
     requires { (past.read + length row.now < 2 ^ 64) × (0 < length row.now) }
-    ensures report { result ≡ further past row.now
-        (handed (length out.old - past.written) row.now) }
-    ensures output { out.new ≡ written past.written
-        (sent_of (handed (length out.old - past.written) row.now))
-        out.old }
+    ensures report { let room = length out.old - past.written in
+        result ≡ further past row.now (handed room row.now) }
+    ensures output { let room = length out.old - past.written in
+        out.new ≡ written past.written (sent_of (handed room row.now)) out.old }
 {
     let to = past.written;
     if out.len().saturating_sub(to) < row.len() {
@@ -30,13 +29,14 @@ fn keep(row: &[u32], past: Done, out: &mut [u32]) -> Done
 }
 
 // The packet that is next in the words, after what was read and written so far.
+#[tactic(auto, unfolding(crate::specs::Rescue::keep, stream::specs::Call::within))]
 fn keep_next(words: &[u32], past: Done, out: &mut [u32]) -> Done
-    ensures report { result ≡ further past (packet (drop past.read words.now))
-        (within Rescue.keep (length out.old - past.written, tt)
-        (drop past.read words.now)) }
-    ensures output { out.new ≡ written past.written
-        (sent_of (within Rescue.keep (length out.old - past.written, tt)
-        (drop past.read words.now))) out.old }
+    ensures report { let room = length out.old - past.written in
+        let left = drop past.read words.now in
+        result ≡ further past (packet left) (within Rescue.keep (room, tt) left) }
+    ensures output { let room = length out.old - past.written in
+        let left = drop past.read words.now in
+        out.new ≡ written past.written (sent_of (within Rescue.keep (room, tt) left)) out.old }
 {
     let read = past.read;
     let Some(packet) = packets_from(words, read).next() else {

@@ -3,11 +3,11 @@ ghost use Rattle.std.specs.Prelude.{◌≡◌, ◌+◌, ◌-◌, ◌<◌, ◌^�
 ghost use Rattle.ground.specs.Store.{at_start, written};
 ghost use Rattle.ump.specs.Packet.{packet};
 ghost use Rattle.stream.specs.Answers.{sent};
-ghost use Rattle.stream.specs.Call.{fit, sent_of, went, within};
+ghost use Rattle.stream.specs.Call.{sent_of, within};
 ghost use Rattle.stream.specs.Report.{counting, reported};
 ghost use Rattle.text.specs.Lines.{place_after, with_row};
-ghost use Rattle.recording.specs.Recording.{cut_line, left_line, line_of, past_after, text_of};
-ghost use Rattle.rescuing.specs.Rescue.{run_tell, tell, turn_of};
+ghost use Rattle.recording.specs.Recording.{cut_line, left_line, past_after, text_of};
+ghost use Rattle.rescuing.specs.Rescue.{run_tell, said, tell, turn_of};
 
 use crate::Told;
 use reader::packets_from;
@@ -42,16 +42,13 @@ fn goes_on(told: Told, packet: &[u32], end: usize) -> Told
 }
 
 // Says what is to be said of a packet, if there is room for it.
+#[tactic(auto, unfolding(recording::specs::Recording::text_of))]
 fn tell_packet(packet: &[u32], told: Told, text: &mut [u8]) -> Told
     requires { told.done.read + length packet.now < 2 ^ 64 }
-    ensures turn { result ≡ turn_of told packet.now (length text.old - told.done.written)
-        (fit (length text.old - told.done.written)
-        (went sent (text_of (line_of told.past packet.now))
-        (past_after told.past packet.now))) }
-    ensures text { text.new ≡ written told.done.written
-        (sent_of (fit (length text.old - told.done.written)
-        (went sent (text_of (line_of told.past packet.now))
-        (past_after told.past packet.now)))) text.old }
+    ensures turn { let room = length text.old - told.done.written in
+        result ≡ turn_of told packet.now room (said room told.past packet.now) }
+    ensures text { let room = length text.old - told.done.written in
+        text.new ≡ written told.done.written (sent_of (said room told.past packet.now)) text.old }
 {
     let to = told.done.written;
     match told.past.line(packet) {
@@ -64,14 +61,14 @@ fn tell_packet(packet: &[u32], told: Told, text: &mut [u8]) -> Told
 }
 
 // The packet that is next in the words, after what was told so far.
+#[tactic(auto, unfolding(crate::specs::Rescue::tell, stream::specs::Call::within))]
 fn tell_next(words: &[u32], told: Told, text: &mut [u8]) -> Told
-    ensures turn { result ≡ turn_of told (packet (drop told.done.read words.now))
-        (length text.old - told.done.written)
-        (within tell (length text.old - told.done.written, told.past)
-        (drop told.done.read words.now)) }
-    ensures text { text.new ≡ written told.done.written
-        (sent_of (within tell (length text.old - told.done.written, told.past)
-        (drop told.done.read words.now))) text.old }
+    ensures turn { let room = length text.old - told.done.written in
+        let left = drop told.done.read words.now in
+        result ≡ turn_of told (packet left) room (within tell (room, told.past) left) }
+    ensures text { let room = length text.old - told.done.written in
+        let left = drop told.done.read words.now in
+        text.new ≡ written told.done.written (sent_of (within tell (room, told.past) left)) text.old }
 {
     match packets_from(words, told.done.read).next() {
         Some(packet) => tell_packet(packet, told, text),
@@ -110,6 +107,7 @@ pub fn tell_some(past: Past, words: &[u32], text: &mut [u8]) -> Told
 
 // Writes what is said from a place on and answers the place after it, or that place where nothing is said or it
 // does not fit.
+#[tactic(auto, unfolding(recording::specs::Recording::text_of))]
 fn put_said(said: Option<Line>, text: &mut [u8], to: usize) -> usize
     ensures place { result ≡ place_after text.old to (text_of said) }
     ensures text { text.new ≡ with_row text.old to (text_of said) }
@@ -123,10 +121,10 @@ fn put_said(said: Option<Line>, text: &mut [u8], to: usize) -> usize
 // What is said of so many bytes that are left at the end, and how many bytes that is: words of a cut
 // packet, and bytes of a cut word.
 pub fn tell_end(place: u64, left: usize, text: &mut [u8]) -> usize
-    ensures bytes { result ≡ place_after (with_row text.old 0 (text_of (cut_line place left)))
-        (place_after text.old 0 (text_of (cut_line place left))) (text_of (left_line left)) }
-    ensures text { text.new ≡ with_row (with_row text.old 0 (text_of (cut_line place left)))
-        (place_after text.old 0 (text_of (cut_line place left))) (text_of (left_line left)) }
+    ensures bytes { let cut = text_of (cut_line place left) in
+        result ≡ place_after (with_row text.old 0 cut) (place_after text.old 0 cut) (text_of (left_line left)) }
+    ensures text { let cut = text_of (cut_line place left) in
+        text.new ≡ with_row (with_row text.old 0 cut) (place_after text.old 0 cut) (text_of (left_line left)) }
 {
     let to = put_said(Line::cut(place, left), text, 0);
     put_said(Line::left(left), text, to)
