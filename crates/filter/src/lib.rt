@@ -13,7 +13,7 @@ use flow::{PANEL_BYTES, Table};
 use notice::Ending;
 use ports::Intake;
 pub use ports::Streams;
-use program::{Program, Totals, translate};
+use program::{Down, Lines, Only, Panel, Program, Totals, Up};
 use start::{Start, Takes};
 use std::env::Env;
 use std::io::{Read, Write};
@@ -63,9 +63,9 @@ fn write_fails<R: Read, W: Write, E: Write>(
 }
 
 // Reads once, translates the whole packets, writes what they come to and keeps the bytes that are left.
-fn turn<R: Read, W: Write, E: Write>(
+fn turn<P: Program, R: Read, W: Write, E: Write>(
     streams: &mut Streams<R, W, E>,
-    program: Program,
+    program: P,
     s: FilterState,
     bytes: &mut [u8],
     words: &mut [u32],
@@ -77,7 +77,7 @@ fn turn<R: Read, W: Write, E: Write>(
     let n = wire::words_of(&bytes[..have], words);
     let table = s.table;
     let totals = s.totals;
-    let translated = translate(program, table, totals, &words[..n], sent, text);
+    let translated = program.translate(table, totals, &words[..n], sent, text);
     let failed = write_fails(streams, text, translated.bytes);
     let left = wire::carry(bytes, 4 * translated.read, have);
     let table = translated.table;
@@ -94,9 +94,9 @@ fn turn<R: Read, W: Write, E: Write>(
 
 // All turns, and none where an argument is wrong. A proved loop has to end, and nothing says that the
 // input does: the turns are counted down from a number that no input uses up.
-fn turns<R: Read, W: Write, E: Write>(
+fn turns<P: Program, R: Read, W: Write, E: Write>(
     streams: &mut Streams<R, W, E>,
-    program: Program,
+    program: P,
     start: Start,
 ) -> FilterState {
     let mut bytes = [0u8; INPUT_BYTES];
@@ -151,7 +151,7 @@ fn say_filter<E: Write>(errors: &mut E, name: &[u8], s: &FilterState) {
 // A line for each packet of standard input going up, and a last one for a cut packet.
 pub fn listing<V: Env, R: Read, W: Write, E: Write>(env: &V, streams: &mut Streams<R, W, E>) {
     let start = start::taken(env, &mut streams.errors, b"listing", Takes::Channels);
-    let s = turns(streams, Program::Lines, start);
+    let s = turns(streams, Lines, start);
     if is_cut(&s) {
         write_fails(streams, b"3 0\n", 4);
     }
@@ -160,14 +160,14 @@ pub fn listing<V: Env, R: Read, W: Write, E: Write>(env: &V, streams: &mut Strea
 // The packets of standard input up.
 pub fn up<V: Env, R: Read, W: Write, E: Write>(env: &V, streams: &mut Streams<R, W, E>) {
     let start = start::taken(env, &mut streams.errors, b"up", Takes::Channels);
-    let s = turns(streams, Program::Up, start);
+    let s = turns(streams, Up, start);
     say_filter(&mut streams.errors, b"up", &s);
 }
 
 // The packets of standard input down, where no channel is marked: any argument is wrong.
 pub fn down<V: Env, R: Read, W: Write, E: Write>(env: &V, streams: &mut Streams<R, W, E>) {
     let start = start::taken(env, &mut streams.errors, b"down", Takes::Nothing);
-    let s = turns(streams, Program::Down, start);
+    let s = turns(streams, Down, start);
     say_filter(&mut streams.errors, b"down", &s);
 }
 
@@ -175,7 +175,11 @@ pub fn down<V: Env, R: Read, W: Write, E: Write>(env: &V, streams: &mut Streams<
 pub fn only<V: Env, R: Read, W: Write, E: Write>(env: &V, streams: &mut Streams<R, W, E>) {
     let chosen = start::channel_chosen(env, &mut streams.errors, b"only");
     let start = chosen.start;
-    let s = turns(streams, Program::Only(chosen.group, chosen.channel), start);
+    let only = Only {
+        group: chosen.group,
+        channel: chosen.channel,
+    };
+    let s = turns(streams, only, start);
     say_filter(&mut streams.errors, b"only", &s);
 }
 
@@ -190,7 +194,7 @@ fn show<R: Read, W: Write, E: Write>(streams: &mut Streams<R, W, E>, table: Tabl
 // read to its end, none are shown.
 pub fn panel<V: Env, R: Read, W: Write, E: Write>(env: &V, streams: &mut Streams<R, W, E>) {
     let start = start::taken(env, &mut streams.errors, b"panel", Takes::Channels);
-    let s = turns(streams, Program::Panel, start);
+    let s = turns(streams, Panel, start);
     let ending = ending(&s);
     let totals = s.totals;
     if s.ended {
