@@ -7,10 +7,10 @@ use Rattle.stream.specs.Call.{Call}
 use Rattle.stream.specs.Calls.{Inside, OwnPacket, seen}
 use Rattle.stream.proofs.RunLoop.{packet-inside}
 use Rattle.stream.proofs.SeenLaws.{inside-seen}
-use Rattle.pupil.specs.declared.Pick.{Pick}
+use Rattle.pupil.specs.declared.Pupil.{Pupil}
 use Rattle.pupil.specs.Only.{pick, picked}
 
-abbrev pub picking : Pick → List ℕ → Call Pick
+abbrev pub picking : Pupil → List ℕ → Call Pupil
 picking x s = seen (λ _. x) (pick x.group x.channel tt s)
 
 -- a pick looks at its own packet alone, and goes on only with a whole one

@@ -19,15 +19,6 @@ use question::is_in_range;
 use stream::{CUT, Calls, Done, NO_ROOM, OUT_OF_RANGE, SENT, TAKEN_IN, report, run_calls};
 use ump::{MIDI1_VOICE, channel_of, group_of, message_type, size};
 
-// Whether a packet is a MIDI 1.0 voice message of that group and channel, by its first word.
-fn is_voice_on(group: u8, channel: u8, w: u32) -> bool
-    ensures { result ≡ voice_on group channel w }
-{
-    let g = group_of(w);
-    let c = channel_of(w);
-    (message_type(w) == MIDI1_VOICE) & ((g.0 == group) & (c.0 == channel))
-}
-
 // Hands a packet of one word back, if there is room for it.
 fn hand_back(w: u32, past: Done, out: &mut [u32]) -> Done
     requires { past.read + 1 < 2 ^ 64 }
@@ -45,40 +36,51 @@ fn hand_back(w: u32, past: Done, out: &mut [u32]) -> Done
     }
 }
 
-// The packet that is next in the words, after what was read and written so far.
-fn pick_next(words: &[u32], group: u8, channel: u8, past: Done, out: &mut [u32]) -> Done
-    ensures report { result ≡ further past (packet (drop past.read words.now))
-        (pick_at group channel words.now past out.old) }
-    ensures output { out.new ≡ written past.written
-        (sent_of (pick_at group channel words.now past out.old)) out.old }
-{
-    let read = past.read;
-    if words.len() <= read {
-        return report(CUT, read, past.written);
-    }
-    let w = words[read];
-    if message_type(w) == MIDI1_VOICE {
-        if is_voice_on(group, channel, w) {
-            return hand_back(w, past, out);
-        }
-        return report(TAKEN_IN, read + 1, past.written);
-    }
-    let n = size(w);
-    if words.len() - read < n {
-        report(CUT, read, past.written)
-    } else {
-        report(TAKEN_IN, read + n, past.written)
-    }
-}
-
-// The channel whose packets are picked, by its group and its own number.
+// Whose packets are picked: those of one channel of a group.
 #[derive(Clone, Copy)]
-struct Pick {
+struct Pupil {
     group: u8,
     channel: u8,
 }
 
-impl Calls for Pick {
+impl Pupil {
+    // Whether a packet is a MIDI 1.0 voice message of that group and channel, by its first word.
+    fn is_voice(self, w: u32) -> bool
+        ensures { result ≡ voice_on self.group self.channel w }
+    {
+        let g = group_of(w);
+        let c = channel_of(w);
+        (message_type(w) == MIDI1_VOICE) & ((g.0 == self.group) & (c.0 == self.channel))
+    }
+
+    // The packet that is next in the words, after what was read and written so far.
+    fn pick_next(self, words: &[u32], past: Done, out: &mut [u32]) -> Done
+        ensures report { result ≡ further past (packet (drop past.read words.now))
+            (pick_at self.group self.channel words.now past out.old) }
+        ensures output { out.new ≡ written past.written
+            (sent_of (pick_at self.group self.channel words.now past out.old)) out.old }
+    {
+        let read = past.read;
+        if words.len() <= read {
+            return report(CUT, read, past.written);
+        }
+        let w = words[read];
+        if message_type(w) == MIDI1_VOICE {
+            if self.is_voice(w) {
+                return hand_back(w, past, out);
+            }
+            return report(TAKEN_IN, read + 1, past.written);
+        }
+        let n = size(w);
+        if words.len() - read < n {
+            report(CUT, read, past.written)
+        } else {
+            report(TAKEN_IN, read + n, past.written)
+        }
+    }
+}
+
+impl Calls for Pupil {
     type Written = u32;
 
     ghost numbers = { λ words. words };
@@ -86,7 +88,7 @@ impl Calls for Pick {
     ghost step = { picking };
 
     fn call(&mut self, words: &[u32], past: Done, out: &mut [u32]) -> Done {
-        pick_next(words, self.group, self.channel, past, out)
+        self.pick_next(words, past, out)
     }
 
     ghost own_packet = { picking-own };
@@ -100,7 +102,7 @@ pub fn only(words: &[u32], group: u8, channel: u8, out: &mut [u32]) -> Done
         (Only.only group channel (length out.old) words.now).sends out.old }
 {
     if is_in_range(group, channel) {
-        run_calls(&mut Pick { group, channel }, words, out)
+        run_calls(&mut Pupil { group, channel }, words, out)
     } else {
         report(OUT_OF_RANGE, 0, 0)
     }

@@ -16,6 +16,8 @@ fn repeated(x: u32, centre: u32) -> u32
     if x <= centre { 0 } else { x % centre }
 }
 
+// Kept: one function over any two widths could not promise this, since a width above 32 does not fit the result, and it
+// would loop over the copies that each of these three writes as one row.
 // From 7 to 16 bits: velocities.
 pub fn up_7_to_16(x: u32) -> u32
     ensures { result ≡ up 7 16 (x % 2 ^ 7) }
@@ -43,6 +45,8 @@ pub fn up_14_to_32(x: u32) -> u32
     (v << 18) + (r << 5) + (r >> 8)
 }
 
+// Kept: one function over any two widths would need tests for those of 32 bits and more, where each of these three is
+// one shift.
 // From 16 to 7 bits.
 pub fn down_16_to_7(y: u32) -> u32
     ensures { result ≡ down 16 7 (y % 2 ^ 16) }

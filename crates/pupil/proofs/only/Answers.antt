@@ -4,7 +4,7 @@ use Rattle.std.proofs.Common.{length}
 use Rattle.ground.specs.Store.{at_start}
 use Rattle.stream.specs.Report.{reported}
 use Rattle.stream.proofs.SeenLaws.{whole-seen}
-use Rattle.pupil.specs.declared.Pick.{Pick}
+use Rattle.pupil.specs.declared.Pupil.{Pupil}
 use Rattle.pupil.specs.Only.{pick}
 use Rattle.pupil.specs.Only as Only
 use Rattle.pupil.specs.Picking.{picking}
@@ -14,7 +14,7 @@ pub returns-then-is_in_range : goal.returns-then-is_in_range
 unfolding Only.only
 returns-then-is_in_range c =
     let a = c.args in
-    let x : Pick = record { group = a.group; channel = a.channel } in
+    let x : Pupil = record { group = a.group; channel = a.channel } in
     let e = whole-seen (λ _. x) (pick a.group a.channel) picking (λ t s. refl) a.words.now (length a.out.now) tt in
     rw (sym c.is_in_range.ensures ∙ c.if-is_in_range.true) record {
       report = c.run_calls.ensures.report ∙ ap reported e;

@@ -5,7 +5,7 @@ use Rattle.ump.specs.Packet.{packet}
 use Rattle.stream.proofs.SeenLaws.{further-next, left-next, sent-next}
 use Rattle.pupil.specs.Only.{pick}
 use Rattle.pupil.specs.Picking.{picking}
-use Rattle.pupil.proofs.PickCalls.call.Goals as goal
+use Rattle.pupil.proofs.PupilCalls.call.Goals as goal
 
 pub returns : goal.returns
 returns c =
