@@ -15,9 +15,9 @@ use Rattle.ground.proofs.Cases.{by_bool, choose}
 use Rattle.stream.specs.Answers.{answered, no_table, out_of_range}
 use Rattle.channel.specs.declared.Record.{Record}
 use Rattle.channel.specs.Record.{empty, whole_table}
-use Rattle.handover.specs.Handover.{can_be_given, changes_hands, channels, emptied, first_of, give_answer, group_owner}
+use Rattle.handover.specs.Handover.{can_be_given, changes_hands, channels, first_of, give_answer, group_owner}
 use Rattle.handover.specs.Handover.{owner_of, owners_after, table_given}
-use Rattle.handover.proofs.Emptying.{emptied-inside, emptied-none, emptied-outside, length-emptied}
+use Rattle.handover.proofs.Emptying.{emptied-inside, emptied-outside, length-emptied}
 
 taken : (b c : Bool) → cond b (cond c answered out_of_range) no_table ≡ answered → (b ≡ true) × (c ≡ true)
 taken true true e = (refl, refl)
@@ -114,11 +114,6 @@ module _ (owners : List ℕ) (t : List Record) (group host : ℕ) where
 
   abbrev after : List Record
   after = table_given owners t group host
-
-  -- it is the table with the row emptied that `give` tells of
-  pub row-emptied : emptied t (first_of group) (cond hands channels 0) ≡ after
-  unfolding table_given
-  row-emptied = by_bool hands (λ e. rw e refl) (λ e. rw e (emptied-none t (first_of group)))
 
   pub table-length : length after ≡ length t
   unfolding table_given

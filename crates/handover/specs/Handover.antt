@@ -4,7 +4,6 @@ use Rattle.ump.specs.Word.{record_number}
 use Rattle.stream.specs.Answers.{answered, no_table, out_of_range}
 use Rattle.channel.specs.declared.Record.{Record}
 use Rattle.channel.specs.Record.{empty, whole_table}
-use Rattle.handover.specs.declared.AnswerAndRow.{AnswerAndRow}
 
 -- the hosts are two
 abbrev pub is_host : ℕ → Bool
@@ -42,10 +41,6 @@ module _ (owners : List ℕ) (n group host : ℕ) where
   -- and then the owner list has the new host
   unfoldable pub owners_after : List ℕ
   owners_after = cond changes_hands (set owners group host) owners
-
-  -- what `give` hands back: the answer, and which records are to be emptied
-  abbrev pub given : AnswerAndRow
-  given = record { answer = give_answer; from = first_of group; count = cond changes_hands channels 0 }
 
 -- so many records from a place on are empty, those of them that there are, and every other stays
 unfoldable pub emptied : List Record → ℕ → ℕ → List Record

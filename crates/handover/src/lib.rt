@@ -1,10 +1,10 @@
 // A group given to a host, or to nobody, and its records emptied.
 //
 // No function has a `requires`, and each says what it does by a definition of specs/. `give` changes
-// the owner list, and tells which records a caller is to empty by `empty_from`.
+// the owner list, and empties the records of the group.
 #![tactic(auto)]
 
-ghost use Rattle.std.specs.Prelude.{◌≡◌, ◌+◌, ◌-◌, min};
+ghost use Rattle.std.specs.Prelude.{◌≡◌, length};
 ghost use Rattle.handover.specs.Handover;
 
 use channel::{RECORDS, Record};
@@ -16,18 +16,11 @@ const LAST_GROUP: u8 = 15;
 
 const LAST_HOST: u8 = 2;
 
+// Kept: an owner is a byte of the list that C lends, and a byte of it may be any number.
 const NOBODY: u8 = 0;
 
 // How many channels a group has.
 const CHANNELS: usize = 16;
-
-// The answer, and the records that are to be emptied: so many from a place on.
-#[derive(Clone, Copy)]
-pub struct AnswerAndRow {
-    pub answer: u32,
-    pub from: usize,
-    pub count: usize,
-}
 
 // Whose a number of the owner list is.
 fn owner_of(n: u8) -> u8
@@ -40,26 +33,26 @@ fn owner_of(n: u8) -> u8
 fn group_owner(owners: &[u8], group: u8) -> u8
     ensures { result ≡ Handover.group_owner owners.now group }
 {
-    let i = group as usize;
-    if i < owners.len() {
-        owner_of(owners[i])
-    } else {
-        NOBODY
-    }
+    owner_of(owners.get(group as usize).copied().unwrap_or(NOBODY))
 }
 
+// Kept: the answer is the number that C is handed, and no step here goes on from a refusal.
 // The answer, with a table of n records.
+#[tactic(auto, unfolding(crate::specs::Handover::give_answer))]
 fn give_answer(owners: &[u8], n: usize, group: u8, host: u8) -> u32
     ensures { result ≡ Handover.give_answer owners.now n group host }
 {
     let can = (group <= LAST_GROUP) & ((group as usize) < owners.len()) & (host <= LAST_HOST);
-    if n == RECORDS {
-        if can { ANSWERED } else { OUT_OF_RANGE }
-    } else {
+    if n != RECORDS {
         NO_TABLE
+    } else if can {
+        ANSWERED
+    } else {
+        OUT_OF_RANGE
     }
 }
 
+#[tactic(auto, unfolding(crate::specs::Handover::changes_hands))]
 fn changes_hands(owners: &[u8], n: usize, group: u8, host: u8) -> bool
     ensures { result ≡ Handover.changes_hands owners.now n group host }
 {
@@ -68,48 +61,28 @@ fn changes_hands(owners: &[u8], n: usize, group: u8, host: u8) -> bool
     (answer == ANSWERED) & (owner != host)
 }
 
-// The owner list has the new host where the group changes hands, and only then are there records to empty.
-pub fn give(owners: &mut [u8], n: usize, group: u8, host: u8) -> AnswerAndRow
-    ensures given { result ≡ Handover.given owners.old n group host }
-    ensures owners { owners.new ≡ Handover.owners_after owners.old n group host }
-{
-    let answer = give_answer(owners, n, group, host);
-    let from = ump::record_number(Group(group), Channel(0));
-    if changes_hands(owners, n, group, host) {
-        owners[group as usize] = host;
-        AnswerAndRow {
-            answer,
-            from,
-            count: CHANNELS,
-        }
-    } else {
-        AnswerAndRow {
-            answer,
-            from,
-            count: 0,
-        }
-    }
-}
-
-// Where so many records from a place on end, in a table of n.
-fn end_of(n: usize, from: usize, count: usize) -> usize
-    ensures { result ≡ from + min count (n - from) }
-{
-    if from < n {
-        if count < n - from { from + count } else { n }
-    } else {
-        from
-    }
-}
-
 // So many records from a place on are emptied, those of them that there are.
 pub fn empty_from(table: &mut [Record], from: usize, count: usize)
     ensures { table.new ≡ Handover.emptied table.old from count }
 {
-    let end = end_of(table.len(), from, count);
-    let mut i = from;
-    while i < end {
+    let end = from + count.min(table.len().saturating_sub(from));
+    for i in from..end {
         table[i] = Record::empty();
-        i += 1;
     }
+}
+
+// The owner list has the new host where the group changes hands, and only then are the group's records emptied.
+pub fn give(owners: &mut [u8], table: &mut [Record], group: u8, host: u8) -> u32
+    ensures answer { result ≡ Handover.give_answer owners.old (length table.old) group host }
+    ensures owners { owners.new ≡ Handover.owners_after owners.old (length table.old) group host }
+    ensures table { table.new ≡ Handover.table_given owners.old table.old group host }
+{
+    let answer = give_answer(owners, table.len(), group, host);
+    if !changes_hands(owners, table.len(), group, host) {
+        return answer;
+    }
+    owners[group as usize] = host;
+    let first = ump::record_number(Group(group), Channel(0));
+    empty_from(table, first, CHANNELS);
+    answer
 }

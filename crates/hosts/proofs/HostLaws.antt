@@ -1,27 +1,19 @@
 -- Who owns a group, as the bit of a rule: the fence of a host lies around its groups. Assumes nothing.
 use Prim.Native.Nat.{ℕ, zero, suc, ◌+◌, ◌*◌, ◌%◌, ◌<◌, ◌≤◌, ◌^◌}
-use mathlib.Core.Path.{◌≡◌, refl, sym, ap, ◌∙◌}
+use mathlib.Core.Path.{◌≡◌, sym, ap, ◌∙◌}
 use mathlib.Core.Bool.{Bool, false, not, ◌&&◌}
 use mathlib.Core.List.{List}
 use native.Mathlib.Omega.{arith}
 use native.Mathlib.Nat.{one-mul}
 use lib.Dec.{eqb}
 use lib.Pow.{shl_exact}
-use borrow.Author.Tests.{eqb-false, eqb-true, ne_eqb}
-use Rattle.ground.proofs.Bools.{and-false}
+use borrow.Author.Tests.{eqb-false, eqb-true}
 use Rattle.ground.proofs.Cases.{by_bool, choose}
 use Rattle.ump.specs.Word.{group_of, message_type}
 use Rattle.keys.specs.Keys.{bit}
 use Rattle.keys.proofs.Bit.{at_zero, with-other, with-same}
 use Rattle.screen.specs.Screen.{grouped, outside}
-use Rattle.handover.specs.Handover.{is_host}
 use Rattle.hosts.specs.Hosts.{groups_below, host_rule, owns, with_group}
-
--- past the end of the list nobody owns a group
-pub nobody : (host : ℕ) → (is_host host && eqb 0 host) ≡ false
-nobody zero = refl
-nobody (suc h) =
-    ap (λ (b : Bool). is_host (suc h) && b) (ne_eqb 0 (suc h) (λ e. omega (arith, e))) ∙ and-false (is_host (suc h))
 
 -- one shifted to a group's place
 pub one_shl : (k : ℕ) → k < 16 → 1 * 2 ^ k % 2 ^ 32 ≡ 2 ^ k

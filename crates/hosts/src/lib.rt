@@ -19,22 +19,13 @@ use table::Job;
 // How many groups there are.
 const GROUPS: u8 = 16;
 
+// The number of the owner list where a group is no host's.
+const NOBODY: u8 = 0;
+
 fn is_host(host: u8) -> bool
     ensures { result ≡ is_host host }
 {
     (host == 1) | (host == 2)
-}
-
-// Whether a host owns a group, by a list that has a number for each group.
-pub fn is_owner(host: u8, owners: &[u8], group: u8) -> bool
-    ensures { result ≡ Hosts.owns host owners.now group }
-{
-    let g = group as usize;
-    if g < owners.len() {
-        is_host(host) & (owners[g] == host)
-    } else {
-        false
-    }
 }
 
 // The groups with the bit of one more, where it is the host's.
@@ -49,61 +40,70 @@ fn with_group(groups: u32, group: u8, mine: bool) -> u32
     }
 }
 
-// The fence of a host, around its groups.
-pub fn host_rule(host: u8, owners: &[u8]) -> Rule
-    ensures { result ≡ Hosts.host_rule host owners.now }
-{
-    let mut groups: u32 = 0;
-    let mut group: u8 = 0;
-    while group < GROUPS {
-        groups = with_group(groups, group, is_owner(host, owners, group));
-        group += 1;
+// A host by its number, and the list that has a number for each group: that of the host that owns it.
+#[derive(Clone, Copy)]
+pub struct Host<'a> {
+    pub number: u8,
+    pub owners: &'a [u8],
+}
+
+impl<'a> Host<'a> {
+    // Whether it owns a group. One past the end of the list is nobody's.
+    pub fn owns(self, group: u8) -> bool
+        ensures { result ≡ Hosts.owns self.entry.number self.entry.owners.now group }
+    {
+        let owner = self.owners.get(group as usize).copied().unwrap_or(NOBODY);
+        is_host(self.number) & (owner == self.number)
     }
-    Rule {
-        beginners: false,
-        fenced: true,
-        groups,
+
+    // The fence around its groups.
+    pub fn rule(self) -> Rule
+        ensures { result ≡ Hosts.host_rule self.entry.number self.entry.owners.now }
+    {
+        let mut groups: u32 = 0;
+        for group in 0..GROUPS {
+            groups = with_group(groups, group, self.owns(group));
+        }
+        Rule {
+            beginners: false,
+            fenced: true,
+            groups,
+        }
+    }
+
+    // What the loop is told for it: one call or a run, inside that fence.
+    pub fn job(self, once: bool) -> Job
+        ensures { result ≡ Hosts.host_job self.entry.number self.entry.owners.now once }
+    {
+        Job {
+            once,
+            known: false,
+            rule: self.rule(),
+        }
+    }
+
+    // What it is told of a record, in a table of n.
+    #[tactic(auto, unfolding(crate::specs::Hosts::host_keys_told))]
+    pub fn keys_told(self, n: usize, group: u8, channel: u8, record: Record) -> KeysDown
+        ensures { result
+            ≡ Hosts.host_keys_told self.entry.number self.entry.owners.now n group channel «record» }
+    {
+        if is_named(n, group, channel) & !self.owns(group) {
+            showing_none(NOT_YOURS)
+        } else {
+            keys_told(n, group, channel, record)
+        }
+    }
+
+    // Whether it may mark a channel of a table of n records.
+    pub fn may_mark(self, n: usize, group: u8, channel: u8) -> bool
+        ensures { result ≡ Hosts.may_mark self.entry.number self.entry.owners.now n group channel }
+    {
+        is_named(n, group, channel) & self.owns(group)
     }
 }
 
-// What the loop is told for a host: one call or a run, inside that fence.
-pub fn host_job(host: u8, owners: &[u8], once: bool) -> Job
-    ensures { result ≡ Hosts.host_job host owners.now once }
-{
-    let rule = host_rule(host, owners);
-    Job {
-        once,
-        known: false,
-        rule,
-    }
-}
-
-// What a host is told of a record, in a table of n.
-pub fn host_keys_told(
-    host: u8,
-    owners: &[u8],
-    n: usize,
-    group: u8,
-    channel: u8,
-    record: Record,
-) -> KeysDown
-    ensures { result ≡ Hosts.host_keys_told host owners.now n group channel «record» }
-{
-    if is_named(n, group, channel) & !is_owner(host, owners, group) {
-        showing_none(NOT_YOURS)
-    } else {
-        keys_told(n, group, channel, record)
-    }
-}
-
-// Whether a host may mark a channel of a table of n records.
-pub fn may_mark(host: u8, owners: &[u8], n: usize, group: u8, channel: u8) -> bool
-    ensures { result ≡ Hosts.may_mark host owners.now n group channel }
-{
-    is_named(n, group, channel) & is_owner(host, owners, group)
-}
-
-// The answer where it may not.
+// The answer where a host may not mark it.
 pub fn unmarked(n: usize, group: u8, channel: u8) -> u32
     ensures { result ≡ Hosts.unmarked n group channel }
 {

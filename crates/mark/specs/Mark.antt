@@ -1,5 +1,5 @@
 -- The call that sets a coarse mark or takes it off (RULES 5.9; 02 M-105).
-use Rattle.std.specs.Prelude.{ℕ, Bool, cond, ◌&&◌, List, eqb, get_or, length, set}
+use Rattle.std.specs.Prelude.{ℕ, Bool, cond, ◌&&◌, List, Option, None, Some, eqb, get_or, length, set}
 use Rattle.stream.specs.Answers.{answered, no_table, not_sound, out_of_range}
 use Rattle.channel.specs.declared.Record.{Record}
 use Rattle.channel.specs.Record.{empty, sound, whole_table, with_mark}
@@ -19,6 +19,11 @@ answer_for r = cond (sound r) answered not_sound
 
 abbrev pub record_marked : Record → ℕ → Record
 record_marked r coarse = cond (sound r) (with_mark r coarse) r
+
+-- the answer that a record after it stands for, and the one that none does
+abbrev pub answer_of : Option Record → ℕ
+answer_of None = not_sound
+answer_of (Some after) = answered
 
 -- the record that is named
 abbrev pub record_of : List Record → ℕ → ℕ → Record

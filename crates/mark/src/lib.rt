@@ -8,19 +8,13 @@
 mod table;
 
 ghost use Rattle.std.specs.Prelude.{◌≡◌};
+ghost use Rattle.std.specs.Option.{unwrap_or};
 ghost use Rattle.mark.specs.Mark;
 
 use channel::{RECORDS, Record};
 use question::{is_in_range, place_asked};
-use stream::{ANSWERED, NO_TABLE, NOT_SOUND, OUT_OF_RANGE};
+use stream::{NO_TABLE, OUT_OF_RANGE};
 pub use table::marked_table;
-
-// The answer, and the record after: as it was, where it is refused.
-#[derive(Clone, Copy)]
-pub struct AnswerAndRecord {
-    pub answer: u32,
-    pub after: Record,
-}
 
 // Whether a group and channel name a record of a table of n.
 pub fn is_named(n: usize, group: u8, channel: u8) -> bool
@@ -36,22 +30,15 @@ pub fn unnamed(n: usize) -> u32
     if n == RECORDS { OUT_OF_RANGE } else { NO_TABLE }
 }
 
-// Any number but 0 sets the mark of a sound record, and 0 takes it off.
-pub fn marking(record: Record, coarse: u8) -> AnswerAndRecord
-    ensures answer { result.answer ≡ Mark.answer_for «record» }
-    ensures after { result.after ≡ Mark.record_marked «record» coarse }
+// A record with its mark set by any number but 0, or taken off by 0. One that is not sound is refused, and stays.
+pub fn marking(record: Record, coarse: u8) -> Option<Record>
+    ensures answer { Mark.answer_of result ≡ Mark.answer_for «record» }
+    ensures after { unwrap_or result «record» ≡ Mark.record_marked «record» coarse }
 {
     if record.is_sound() {
-        let after = record.with_mark(coarse);
-        AnswerAndRecord {
-            answer: ANSWERED,
-            after,
-        }
+        Some(record.with_mark(coarse))
     } else {
-        AnswerAndRecord {
-            answer: NOT_SOUND,
-            after: record,
-        }
+        None
     }
 }
 
@@ -62,9 +49,8 @@ pub fn mark_in(table: [Record; RECORDS], group: u8, channel: u8, coarse: u8) -> 
     let mut records = table;
     if is_named(RECORDS, group, channel) {
         let i = place_asked(group, channel);
-        let marking = marking(records[i], coarse);
-        let after = marking.after;
-        records[i] = after;
+        let record = records[i];
+        records[i] = marking(record, coarse).unwrap_or(record);
     }
     records
 }

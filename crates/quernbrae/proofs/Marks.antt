@@ -7,10 +7,13 @@ use Rattle.ground.proofs.Cases.{by_bool}
 use Rattle.channel.specs.declared.Record.{Record}
 use Rattle.channel.specs.Record.{empty}
 use Rattle.question.specs.Question.{place_asked}
-use Rattle.mark.specs.declared.AnswerAndRecord.{AnswerAndRecord}
 use Rattle.mark.specs.Mark.{answer_for, mark_answer, named, record_marked, record_of, table_marked, unnamed}
 use Rattle.mark.proofs.PlaceLaws.{named-inside}
 use Rattle.hosts.specs.Hosts.{host_mark_answer, host_table_marked, may_mark, owns, unmarked}
+
+-- what is answered of a record, and what it is after
+abbrev pub Marked : Record → ℕ → ℕ → Record → Type 0
+Marked r coarse answer after = (answer ≡ answer_for r) × (after ≡ record_marked r coarse)
 
 module _ (t : List Record) (group channel coarse : ℕ) where
   -- the record that is read is the one that is named
@@ -21,15 +24,15 @@ module _ (t : List Record) (group channel coarse : ℕ) where
       ∙ get_or_default t (place_asked group channel) e empty (named-inside (length t) group channel h)
 
   pub marked-named : named (length t) group channel ≡ true → (i : ℕ) → i ≡ place_asked group channel → (e : Record)
-      → (m : AnswerAndRecord) → m.answer ≡ answer_for (get_or t i e) → m.after ≡ record_marked (get_or t i e) coarse
-      → (m.answer ≡ mark_answer t group channel) × (set t i m.after ≡ table_marked t group channel coarse)
+      → (answer : ℕ) (after : Record) → Marked (get_or t i e) coarse answer after
+      → (answer ≡ mark_answer t group channel) × (set t i after ≡ table_marked t group channel coarse)
   unfolding mark_answer table_marked
-  marked-named h i p e m a b =
+  marked-named h i p e answer after m =
       let r = read_is h i p e in
       let k : record_marked (get_or t i e) coarse ≡ record_marked (record_of t group channel) coarse =
       ap (λ (x : Record). record_marked x coarse) r in (
-        a ∙ ap answer_for r ∙ rw h refl,
-        ap (λ (x : Record). set t i x) (b ∙ k)
+        m.0 ∙ ap answer_for r ∙ rw h refl,
+        ap (λ (x : Record). set t i x) (m.1 ∙ k)
             ∙ ap (λ (n : ℕ). set t n (record_marked (record_of t group channel) coarse)) p ∙ rw h refl,
       )
 
@@ -41,15 +44,14 @@ module _ (t : List Record) (group channel coarse : ℕ) where
   -- the same of a host
   module _ (host : ℕ) (owners : List ℕ) where
     pub host-marked : may_mark host owners (length t) group channel ≡ true → (i : ℕ) → i ≡ place_asked group channel
-        → (e : Record) → (m : AnswerAndRecord) → m.answer ≡ answer_for (get_or t i e)
-        → m.after ≡ record_marked (get_or t i e) coarse
-        → (m.answer ≡ host_mark_answer host owners t group channel)
-        × (set t i m.after ≡ host_table_marked host owners t group channel coarse)
+        → (e : Record) → (answer : ℕ) (after : Record) → Marked (get_or t i e) coarse answer after
+        → (answer ≡ host_mark_answer host owners t group channel)
+        × (set t i after ≡ host_table_marked host owners t group channel coarse)
     unfolding host_mark_answer host_table_marked
-    host-marked h i p e m a b =
+    host-marked h i p e answer after m =
         let n = and_left (named (length t) group channel) (owns host owners group) h in
         let o = and_right (named (length t) group channel) (owns host owners group) h in
-        let z = marked-named n i p e m a b in
+        let z = marked-named n i p e answer after m in
         (z.0 ∙ rw (n, o) refl, z.1 ∙ rw (n, o) refl)
 
     pub host-unmarked : may_mark host owners (length t) group channel ≡ false

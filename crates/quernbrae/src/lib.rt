@@ -28,6 +28,7 @@ ghost use Rattle.voice.specs.Packet.{one_down, run_down};
 ghost use Rattle.table.specs.Table.{beginners_one_up, beginners_run_up, one_up, run_up, table_after};
 
 use channel::Record;
+use hosts::Host;
 use identity::{Identity, Maker};
 pub use messages::{quernbrae_chain_closed, quernbrae_collect, quernbrae_run_collect};
 use question::KeysDown;
@@ -146,7 +147,16 @@ pub extern "C" fn quernbrae_host_up(
     ensures output { out.new ≡ at_start (host_one_up host owners.now
         (length out.old) table.old words.now).sends out.old }
 {
-    treat(words, hosts::host_job(host, owners, true), table, out)
+    treat(
+        words,
+        Host {
+            number: host,
+            owners,
+        }
+        .job(true),
+        table,
+        out,
+    )
 }
 
 // A run up for a host.
@@ -165,7 +175,16 @@ pub extern "C" fn quernbrae_host_run_up(
     ensures output { out.new ≡ at_start (host_run_up host owners.now
         (length out.old) table.old words.now).sends out.old }
 {
-    treat(words, hosts::host_job(host, owners, false), table, out)
+    treat(
+        words,
+        Host {
+            number: host,
+            owners,
+        }
+        .job(false),
+        table,
+        out,
+    )
 }
 
 // One call down: the packet at the start of the words.
@@ -207,7 +226,11 @@ pub extern "C" fn quernbrae_host_down(
         words,
         stream::report(stream::SENT, 0, 0),
         out,
-        hosts::host_rule(host, owners),
+        Host {
+            number: host,
+            owners,
+        }
+        .rule(),
     )
 }
 
@@ -225,7 +248,15 @@ pub extern "C" fn quernbrae_host_run_down(
         (host_run_down host owners.now (length out.old) words.now).sends
         out.old }
 {
-    voice::run_down(words, out, hosts::host_rule(host, owners))
+    voice::run_down(
+        words,
+        out,
+        Host {
+            number: host,
+            owners,
+        }
+        .rule(),
+    )
 }
 
 // One channel's packets: the MIDI 1.0 voice messages of a group and channel, unchanged and in order.
@@ -259,7 +290,11 @@ pub extern "C" fn quernbrae_host_keys_down(
     ensures { result ≡ host_keys_asked host owners.now table.now group channel }
 {
     let record = table::record_at(table, question::place_asked(group, channel));
-    hosts::host_keys_told(host, owners, table.len(), group, channel, record)
+    Host {
+        number: host,
+        owners,
+    }
+    .keys_told(table.len(), group, channel, record)
 }
 
 // Any number but 0 marks a channel of a group coarse, and 0 takes the mark off.
@@ -276,9 +311,13 @@ pub extern "C" fn quernbrae_mark_coarse(
     let n = table.len();
     if mark::is_named(n, group, channel) {
         let i = question::place_asked(group, channel);
-        let marked = mark::marking(table[i], coarse);
-        table[i] = marked.after;
-        marked.answer
+        match mark::marking(table[i], coarse) {
+            Some(after) => {
+                table[i] = after;
+                stream::ANSWERED
+            }
+            None => stream::NOT_SOUND,
+        }
     } else {
         mark::unnamed(n)
     }
@@ -299,11 +338,19 @@ pub extern "C" fn quernbrae_host_mark_coarse(
         ≡ host_table_marked host owners.now table.old group channel coarse }
 {
     let n = table.len();
-    if hosts::may_mark(host, owners, n, group, channel) {
+    let host = Host {
+        number: host,
+        owners,
+    };
+    if host.may_mark(n, group, channel) {
         let i = question::place_asked(group, channel);
-        let marked = mark::marking(table[i], coarse);
-        table[i] = marked.after;
-        marked.answer
+        match mark::marking(table[i], coarse) {
+            Some(after) => {
+                table[i] = after;
+                stream::ANSWERED
+            }
+            None => stream::NOT_SOUND,
+        }
     } else {
         hosts::unmarked(n, group, channel)
     }
@@ -323,9 +370,7 @@ pub extern "C" fn quernbrae_give_group(
     ensures table { table.new
         ≡ table_given owners.old table.old group host }
 {
-    let given = handover::give(owners, table.len(), group, host);
-    handover::empty_from(table, given.from, given.count);
-    given.answer
+    handover::give(owners, table, group, host)
 }
 
 // The form of 16 bits of a maker identity, from its bytes.

@@ -20,7 +20,7 @@ returns-then-is_named c =
     let k = place_asked a.group a.channel in
     let l : length a.table ≡ whole_table = search rules in
     let h : k < length a.table = rw l (named-inside 256 a.group a.channel e) in
-    rw (l, e, c.marking-marking.ensures.after, c.place_asked-i.ensures)
+    rw (l, e, c.unwrap_or.ensures ∙ c.marking.ensures.after, c.place_asked-i.ensures)
     (ap (λ (r : Record). set a.table k (record_marked r a.coarse)) (get_d_any a.table k _ empty h))
 
 pub returns-else-is_named : goal.returns-else-is_named

@@ -5,4 +5,4 @@ use Rattle.quernbrae.proofs.quernbrae_host_keys_down.Goals as goal
 
 pub returns : goal.returns
 unfolding host_keys_asked
-returns c = rw (c.record_at-record.ensures, c.place_asked.ensures) at c.host_keys_told.ensures
+returns c = rw (c.record_at-record.ensures, c.place_asked.ensures) at c.keys_told.ensures

@@ -7,5 +7,5 @@ use Rattle.quernbrae.proofs.quernbrae_host_run_up.Goals as goal
 pub returns : goal.returns
 unfolding asked table_step host_run_up
 returns c =
-    let t = rw c.host_job.ensures at c.treat.ensures in
+    let t = rw c.job.ensures at c.treat.ensures in
     record { report = t.report; table = t.table; output = t.output }
