@@ -1,5 +1,5 @@
 -- What the desk shows, against a definition that knows no desk (02 M-110): what the last messages say that speak of it.
-use Rattle.std.specs.Prelude.{ℕ, ◌<◌, ◌≡◌, cond, List, [], ◌∷◌, map, eqb}
+use Rattle.std.specs.Prelude.{ℕ, ◌<◌, ◌≡◌, cond, List, [], ◌∷◌, map, eqb, Option, Some, None}
 use Rattle.ump.specs.declared.Group.{Group}
 use Rattle.ump.specs.declared.Channel.{Channel}
 use Rattle.ump.specs.Packet.{packet}
@@ -7,8 +7,6 @@ use Rattle.pitch.specs.Pitch.{centre}
 use Rattle.tuning.specs.declared.Desk.{Desk}
 use Rattle.tuning.specs.declared.Sound.{Sound}
 use Rattle.tuning.specs.declared.Sound.TheVariants.{Silent}
-use Rattle.tuning.specs.declared.Tuned.{Tuned}
-use Rattle.tuning.specs.declared.Tuned.TheVariants.{Never, To}
 use Rattle.tuning.specs.Desk.{Message, all_end, answer_as, answer_at, asked_for, bends, fresh, heard, nothing, said}
 use Rattle.tuning.specs.Desk.{sound_at, sounds, tuned_at, tunes}
 
@@ -30,10 +28,10 @@ says_sound k before (tunes j v) = before
 says_sound k before (bends v) = before
 says_sound k before nothing = before
 
-unfoldable pub says_tuned : ℕ → Tuned → Message → Tuned
+unfoldable pub says_tuned : ℕ → Option ℕ → Message → Option ℕ
 says_tuned k before (sounds j s) = before
 says_tuned k before all_end = before
-says_tuned k before (tunes j v) = cond (eqb j k) (To v) before
+says_tuned k before (tunes j v) = cond (eqb j k) (Some v) before
 says_tuned k before (bends v) = before
 says_tuned k before nothing = before
 
@@ -54,13 +52,13 @@ pub record HistoryOn (g : Group) (c : Channel) : Type 0 where
   pub sounding : (ps : List (List ℕ)) (k : ℕ) → k < 128
       → sound_at (heard_all (fresh g c) ps) k ≡ last_says (says_sound k) Silent (all_said g c ps)
   pub tuned : (ps : List (List ℕ)) (k : ℕ) → k < 128
-      → tuned_at (heard_all (fresh g c) ps) k ≡ last_says (says_tuned k) Never (all_said g c ps)
+      → tuned_at (heard_all (fresh g c) ps) k ≡ last_says (says_tuned k) None (all_said g c ps)
   pub bend : (ps : List (List ℕ)) → (heard_all (fresh g c) ps).bend ≡ last_says says_bend centre (all_said g c ps)
   -- and what is answered for a note is worked out from these alone
   pub answered : (ps : List (List ℕ)) (k units cents : ℕ) → k < 128
       → answer_at (heard_all (fresh g c) ps) k units cents
       ≡ answer_as (asked_for (last_says (says_sound k) Silent (all_said g c ps))
-      (last_says (says_tuned k) Never (all_said g c ps)) k units cents)
+      (last_says (says_tuned k) None (all_said g c ps)) k units cents)
       (last_says says_bend centre (all_said g c ps)) units
 
 abbrev pub History : Type 0

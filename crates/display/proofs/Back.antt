@@ -2,17 +2,18 @@
 -- Assumes nothing.
 use Prim.Native.Nat.{ℕ, suc, ◌+◌, ◌*◌, ◌^◌, ◌<◌}
 use mathlib.Core.Path.{◌≡◌, refl, sym, ap, ◌∙◌, subst}
-use mathlib.Core.Bool.{true, false, true≢false}
+use mathlib.Core.Bool.{Bool, true, false, true≢false}
 use native.Mathlib.Nat.{le_of_lt, lt_of_lt_of_le, mul-pos, zero-mul}
 use native.Mathlib.Omega.{arith}
 use borrow.Author.Tests.{le-ltb, lt-ltb}
 use lib.Dec.{T, le→leb, lit<, lit≤}
 use lib.IntN.{ℤ, nat_abs, negsuc, pos}
-use lib.Ieee.{Float, binary64, down, fin, in_float, in_unsigned, inf, lt, mul, nan, neg, of_int, to_unsigned, up}
+use lib.Ieee.{Float, binary64, down, fin, in_float, in_unsigned, inf, lt, mul, nan, of_int, to_unsigned, up}
 use lib.Ieee.Back.{unsigned_back}
 use lib.Ieee.Exact.{HasValue}
 use lib.Ieee.Fits.{down_pos}
 use lib.Ieee.Scale.{round_same}
+use Rattle.std.specs.Float.{float_with_sign}
 use Rattle.pitch.specs.Dyadic.{nearest, times2}
 use Rattle.pitch.proofs.Exact.{below-value, exactly, nearest-value, times2-is}
 use Rattle.display.specs.Line.{Parts, below0}
@@ -62,28 +63,33 @@ is_below (fin true m e) n v =
     let q : 0 < m * up e = above (m * up e) (suc n) (down e) v.1 p (omega arith) in
     lt-ltb 0 (m * up e * 1 + 0 * 1 * down e) (omega (arith, zero-mul (down e)))
 
-negated-value : (x : Float) (n : ℕ) → HasValue x true n (2 ^ 31) → HasValue (neg x) false n (2 ^ 31)
-unfolding neg
-negated-value nan n v = absurd v
-negated-value (inf s) n v = absurd v
-negated-value (fin false m e) n v = absurd (true≢false (sym v.0))
-negated-value (fin true m e) n v = (refl, v.1)
+-- without its sign
+abbrev without_sign : Float → Float
+without_sign x = float_with_sign false x
+
+positive : (x : Float) (s : Bool) (n : ℕ) → HasValue x s n (2 ^ 31) → HasValue (without_sign x) false n (2 ^ 31)
+unfolding float_with_sign
+positive nan s n v = absurd v
+positive (inf t) s n v = absurd v
+positive (fin t m e) s n v = (refl, v.1)
 
 -- the whole number, by its sign
 abbrev Turned : Float → ℤ → Type 0
 Turned x z =
     (lt x zero0 ≡ below0 z)
-    × (lt x zero0 ≡ true → T (in_unsigned binary64 64 (mul binary64 (neg x) two31)) × (to_unsigned 64 (mul binary64 (neg x) two31) ≡ nat_abs z))
-    × (lt x zero0 ≡ false → T (in_unsigned binary64 64 (mul binary64 x two31)) × (to_unsigned 64 (mul binary64 x two31) ≡ nat_abs z))
+    × T (in_unsigned binary64 64 (mul binary64 (without_sign x) two31))
+    × (to_unsigned 64 (mul binary64 (without_sign x) two31) ≡ nat_abs z)
 
 turned_by : (x : Float) (z : ℤ) → x ≡ nearest 31 z → nat_abs z < 2 ^ 53 → Turned x z
 unfolding nearest
 turned_by x (pos n) e h =
     let v = subst (λ (y : Float). HasValue y false n (2 ^ 31)) (sym e) (nearest-value 31 n h (lit≤ tt)) in
-    (not-below x n v, λ t. absurd (true≢false (sym t ∙ not-below x n v)), λ _. cast-back x n v h)
+    let k = cast-back (without_sign x) n (positive x false n v) h in
+    (not-below x n v, k.0, k.1)
 turned_by x (negsuc n) e h =
     let v = subst (λ (y : Float). HasValue y true (suc n) (2 ^ 31)) (sym e) (below-value 31 n h (lit≤ tt)) in
-    (is_below x n v, λ _. cast-back (neg x) (suc n) (negated-value x (suc n) v) h, λ t. absurd (true≢false (sym (is_below x n v) ∙ t)))
+    let k = cast-back (without_sign x) (suc n) (positive x true (suc n) v) h in
+    (is_below x n v, k.0, k.1)
 
 pub turned : (x : Float) → Parts x → Turned x (times2 31 x)
 turned x p =

@@ -1,10 +1,12 @@
 -- What the desk displays, in ASCII (02 M-110; RULES 16): the notes that sound, from the lowest number on.
-use Rattle.std.specs.Prelude.{ℕ, zero, suc, ◌+◌, ◌^◌, ◌<◌, ◌≡◌, Bool, true, false, cond, ◌&&◌, List, [], ◌∷◌, ◌++◌, eqb, ℤ, nat_abs, negsuc, pos, Float}
+use Rattle.std.specs.Prelude.{ℕ, zero, suc, ◌+◌, ◌^◌, ◌<◌, ◌≡◌, Bool, true, false, cond, ◌&&◌, List, []}
+use Rattle.std.specs.Prelude.{◌∷◌, ◌++◌, eqb, ℤ, nat_abs, negsuc, pos, Float, Option, Some, None}
 use Rattle.std.specs.Float.Ieee.{eq}
+use Rattle.std.specs.Result.{result_ok}
 use Rattle.text.specs.Lines.{decimal}
 use Rattle.figures.specs.Figures.{exact_decimal}
 use Rattle.pitch.specs.declared.Shown.{Shown}
-use Rattle.pitch.specs.declared.Shown.TheVariants.{Nothing, Number, Pitch725, Pitch79}
+use Rattle.pitch.specs.declared.Shown.TheVariants.{Number, Pitch725, Pitch79}
 use Rattle.pitch.specs.Dyadic.{nearest, times2}
 use Rattle.pitch.specs.Pitch.{float_of}
 use Rattle.tuning.specs.declared.Desk.{Desk}
@@ -32,34 +34,32 @@ unfoldable pub field_of : ℕ → List ℕ → Float → List ℕ
 field_of note name x = (32 ∷ []) ++ decimal note ++ name ++ pitch_text x
 
 -- the names: note, 7.25 and 7.9
-unfoldable pub field_from : ℕ → Shown → List ℕ
-field_from note Nothing = []
-field_from note (Number x) = field_of note (32 ∷ 110 ∷ 111 ∷ 116 ∷ 101 ∷ 32 ∷ []) x
-field_from note (Pitch725 x) = field_of note (32 ∷ 55 ∷ 46 ∷ 50 ∷ 53 ∷ 32 ∷ []) x
-field_from note (Pitch79 x) = field_of note (32 ∷ 55 ∷ 46 ∷ 57 ∷ 32 ∷ []) x
+unfoldable pub field_from : ℕ → Option Shown → List ℕ
+field_from note None = []
+field_from note (Some (Number x)) = field_of note (32 ∷ 110 ∷ 111 ∷ 116 ∷ 101 ∷ 32 ∷ []) x
+field_from note (Some (Pitch725 x)) = field_of note (32 ∷ 55 ∷ 46 ∷ 50 ∷ 53 ∷ 32 ∷ []) x
+field_from note (Some (Pitch79 x)) = field_of note (32 ∷ 55 ∷ 46 ∷ 57 ∷ 32 ∷ []) x
 
 -- what is shown of a note where the range has so many units
-abbrev pub shown_at : Desk → ℕ → ℕ → Shown
-shown_at d units note = (answer_at d note units 0).shown
+abbrev pub shown_at : Desk → ℕ → ℕ → Option Shown
+shown_at d units note = result_ok (answer_at d note units 0)
 
 -- the notes below n, one after another
 unfoldable pub fields_below : Desk → ℕ → ℕ → List ℕ
 fields_below d units zero = []
 fields_below d units (suc n) = fields_below d units n ++ field_from n (shown_at d units n)
 
--- which of the three it is, as a number
-abbrev pub kind_of : Shown → ℕ
-kind_of Nothing = 0
-kind_of (Number x) = 1
-kind_of (Pitch725 x) = 2
-kind_of (Pitch79 x) = 3
+-- which of the three it is, as a number; 0 where there is none
+abbrev pub kind_of : Option Shown → ℕ
+kind_of None = 0
+kind_of (Some (Number x)) = 1
+kind_of (Some (Pitch725 x)) = 2
+kind_of (Some (Pitch79 x)) = 3
 
 -- how many of the notes below n are shown
-abbrev pub one_if_shown : Shown → ℕ
-one_if_shown Nothing = 0
-one_if_shown (Number x) = 1
-one_if_shown (Pitch725 x) = 1
-one_if_shown (Pitch79 x) = 1
+abbrev pub one_if_shown : Option Shown → ℕ
+one_if_shown None = 0
+one_if_shown (Some shown) = 1
 
 unfoldable pub count_below : Desk → ℕ → ℕ → ℕ
 count_below d units zero = 0
@@ -70,7 +70,7 @@ unfoldable pub line_of : Desk → ℕ → List ℕ
 line_of d units = decimal (count_below d units 128) ++ fields_below d units 128 ++ (10 ∷ [])
 
 -- the same shown of a note: the same pitch, counted from the same
-abbrev pub same_shown : Shown → Shown → Bool
+abbrev pub same_shown : Option Shown → Option Shown → Bool
 same_shown a b = eqb (kind_of a) (kind_of b) && eq (float_of a) (float_of b)
 
 -- the same shown of the notes below n

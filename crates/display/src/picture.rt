@@ -4,10 +4,10 @@ ghost use Rattle.std.proofs.lemmas.List.Edits.{sets};
 ghost use Rattle.text.specs.Lines.{place_after, with_row};
 ghost use Rattle.pitch.specs.Dyadic.{times2};
 ghost use Rattle.pitch.specs.Pitch.{float_of};
-ghost use Rattle.display.specs.Line.{Parts, count_below, field_from, field_of, fields_below, kind_of, line_of};
-ghost use Rattle.display.specs.Line.{one_if_shown, pitch_text, same_below, same_shown};
+ghost use Rattle.display.specs.Line.{Parts, count_below, field_from, field_of, fields_below, line_of};
+ghost use Rattle.display.specs.Line.{pitch_text, same_below, same_shown, shown_at};
 
-use pitch::{Shown, shown_pitch};
+use pitch::Shown;
 use tuning::{Desk, ask};
 
 // How many notes there are.
@@ -21,13 +21,7 @@ fn size_of(p: f64) -> u64
     requires { Parts p }
     ensures { result ≡ nat_abs (times2 31 p) }
 {
-    if p < 0.0 {
-        let q = -p * 2147483648.0;
-        q as u64
-    } else {
-        let q = p * 2147483648.0;
-        q as u64
-    }
+    (p.abs() * 2147483648.0) as u64
 }
 
 // Stores a pitch in exact digits.
@@ -57,17 +51,26 @@ fn put_field(note: u8, name: &[u8], p: f64, row: &mut [u8], at: usize) -> usize
     put_pitch(p, row, third)
 }
 
+// What is shown of a note, if anything is.
+fn shown(desk: Desk, units: u32, note: u8) -> Option<Shown>
+    ensures is { result ≡ shown_at desk units note }
+    ensures parts { Parts (float_of result) }
+{
+    ask(desk, note, units, 0).ok()
+}
+
 // Stores what is shown of a note: nothing where it is silent.
-fn put_shown(note: u8, shown: Shown, row: &mut [u8], at: usize) -> usize
+#[tactic(auto, unfolding(crate::specs::Line::field_from))]
+fn put_shown(note: u8, shown: Option<Shown>, row: &mut [u8], at: usize) -> usize
     requires { Parts (float_of shown) × (at + 63 ≤ length row.old) }
     ensures place { result ≡ at + length (field_from note shown) }
     ensures text { row.new ≡ sets row.old at (field_from note shown) }
 {
     match shown {
-        Shown::Nothing => at,
-        Shown::Number(p) => put_field(note, b" note ", p, row, at),
-        Shown::Pitch725(p) => put_field(note, b" 7.25 ", p, row, at),
-        Shown::Pitch79(p) => put_field(note, b" 7.9 ", p, row, at),
+        None => at,
+        Some(Shown::Number(p)) => put_field(note, b" note ", p, row, at),
+        Some(Shown::Pitch725(p)) => put_field(note, b" 7.25 ", p, row, at),
+        Some(Shown::Pitch79(p)) => put_field(note, b" 7.9 ", p, row, at),
     }
 }
 
@@ -79,54 +82,19 @@ fn put_notes(desk: Desk, units: u32, row: &mut [u8], at: usize) -> usize
     ensures few { result ≤ at + 8064 }
 {
     let mut end = at;
-    let mut note: u8 = 0;
-    while note < NOTES {
-        let asked = ask(desk, note, units, 0);
-        let shown = asked.shown;
-        end = put_shown(note, shown, row, end);
-        note += 1;
+    for note in 0..NOTES {
+        end = put_shown(note, shown(desk, units, note), row, end);
     }
     end
 }
 
-// Which of the three a shown pitch is counted from, as a number; 0 where there is none.
-fn kind_of(shown: Shown) -> u8
-    ensures { result ≡ kind_of shown }
-{
-    match shown {
-        Shown::Nothing => 0,
-        Shown::Number(_) => 1,
-        Shown::Pitch725(_) => 2,
-        Shown::Pitch79(_) => 3,
-    }
-}
-
-// 1 where something is shown of a note, and else 0.
-fn one_if_shown(shown: Shown) -> u64
-    ensures count { result ≡ one_if_shown shown }
-    ensures few { result ≤ 1 }
-{
-    match shown {
-        Shown::Nothing => 0,
-        Shown::Number(_) => 1,
-        Shown::Pitch725(_) => 1,
-        Shown::Pitch79(_) => 1,
-    }
-}
-
 // How many notes are shown.
-fn count_notes(desk: Desk, units: u32) -> u64
+fn count_notes(desk: Desk, units: u32) -> usize
     ensures { result ≡ count_below desk units 128 }
 {
-    let mut count: u64 = 0;
-    let mut note: u8 = 0;
-    while note < NOTES {
-        let asked = ask(desk, note, units, 0);
-        let shown = asked.shown;
-        count += one_if_shown(shown);
-        note += 1;
-    }
-    count
+    (0..NOTES)
+        .filter(|note| shown(desk, units, *note).is_some())
+        .count()
 }
 
 // Stores the whole line, and answers its length.
@@ -136,7 +104,7 @@ fn put_line(desk: Desk, units: u32, row: &mut [u8]) -> usize
     ensures text { row.new ≡ sets row.old 0 (line_of desk units) }
     ensures few { result ≤ 8192 }
 {
-    let fields = text::number(count_notes(desk, units), row, 0);
+    let fields = text::number(count_notes(desk, units) as u64, row, 0);
     let end = put_notes(desk, units, row, fields);
     row[end] = b'\n';
     end + 1
@@ -153,26 +121,16 @@ pub fn line(desk: Desk, units: u32, out: &mut [u8], to: usize) -> usize
     text::row(&row[..n], out, to)
 }
 
-// Whether the same is shown of a note: the same pitch, counted from the same.
-fn is_same_shown(one: Shown, other: Shown) -> bool
+// Whether the same is shown of a note: the same pitch, counted from the same; or nothing of either.
+fn is_same_shown(one: Option<Shown>, other: Option<Shown>) -> bool
     ensures { result ≡ same_shown one other }
 {
-    (kind_of(one) == kind_of(other)) & (shown_pitch(one) == shown_pitch(other))
+    one == other
 }
 
 // Whether two desks show the same of every note.
 pub fn is_same_picture(one: Desk, other: Desk, units: u32) -> bool
     ensures { result ≡ same_below one other units 128 }
 {
-    let mut same = true;
-    let mut note: u8 = 0;
-    while note < NOTES {
-        let first = ask(one, note, units, 0);
-        let second = ask(other, note, units, 0);
-        let a = first.shown;
-        let b = second.shown;
-        same = same & is_same_shown(a, b);
-        note += 1;
-    }
-    same
+    (0..NOTES).all(|note| is_same_shown(shown(one, units, note), shown(other, units, note)))
 }

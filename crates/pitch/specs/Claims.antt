@@ -1,5 +1,5 @@
 -- What is claimed of pitches: that they are exact, and that every operation on the way is (02 M-110).
-use Rattle.std.specs.Prelude.{ℕ, ◌^◌, ◌<◌, ◌≡◌, false, ℤ, pos, ◌+ℤ◌, ◌-ℤ◌, ◌*ℤ◌, Float}
+use Rattle.std.specs.Prelude.{ℕ, ◌^◌, ◌<◌, ◌≡◌, false, ℤ, pos, ◌+ℤ◌, ◌-ℤ◌, ◌*ℤ◌, Float, Some}
 use Rattle.std.specs.Float.Ieee.{add, div, mul, of_int, sub}
 use Rattle.std.specs.Float.{binary64, fin}
 use Rattle.pitch.specs.declared.Base.{Base}
@@ -18,7 +18,7 @@ Held (Pitch79 h) = h < 2 ^ 16
 abbrev pub Exactness : Type 0
 Exactness =
     (base : Base) (bend units : ℕ) → Held base → bend < 2 ^ 32 → units < 2 ^ 8
-    → let x = float_of (shown_as base (nearest 31 (pitch_of base bend units))) in
+    → let x = float_of (Some (shown_as base (nearest 31 (pitch_of base bend units)))) in
     Dyadic 42 31 x (pitch_of base bend units) × (times2 31 x ≡ pitch_of base bend units)
 
 -- a whole number as a float, and 2 ^ j

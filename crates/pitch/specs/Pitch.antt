@@ -1,11 +1,10 @@
 -- The shown pitch in hundred-cent units, as a whole number of 2 to the -31 (02 M-110; 004 section 7.4.15).
-use Rattle.std.specs.Prelude.{ℕ, ◌*◌, ◌^◌, false, ℤ, pos, ◌+ℤ◌, ◌-ℤ◌, ◌*ℤ◌, Float}
+use Rattle.std.specs.Prelude.{ℕ, ◌*◌, ◌^◌, false, ℤ, pos, ◌+ℤ◌, ◌-ℤ◌, ◌*ℤ◌, Float, Option, Some, None}
 use Rattle.std.specs.Float.{fin}
 use Rattle.pitch.specs.declared.Base.{Base}
 use Rattle.pitch.specs.declared.Base.TheVariants.{Number, Pitch725, Pitch79}
 use Rattle.pitch.specs.declared.Shown.{Shown}
-use Rattle.pitch.specs.declared.Shown.TheVariants.{Nothing, Number as OfNumber, Pitch725 as OfPitch725}
-use Rattle.pitch.specs.declared.Shown.TheVariants.{Pitch79 as OfPitch79}
+use Rattle.pitch.specs.declared.Shown.TheVariants.{Number as OfNumber, Pitch725 as OfPitch725, Pitch79 as OfPitch79}
 
 -- the note number; Pitch 7.25, with 25 binary places; Pitch 7.9, with 9
 abbrev pub base_of : Base → ℕ
@@ -31,8 +30,8 @@ shown_as (Pitch725 w) x = OfPitch725 x
 shown_as (Pitch79 h) x = OfPitch79 x
 
 -- the pitch that is shown: 0 where there is none
-abbrev pub float_of : Shown → Float
-float_of Nothing = fin false 0 (pos 0)
-float_of (OfNumber x) = x
-float_of (OfPitch725 x) = x
-float_of (OfPitch79 x) = x
+abbrev pub float_of : Option Shown → Float
+float_of None = fin false 0 (pos 0)
+float_of (Some (OfNumber x)) = x
+float_of (Some (OfPitch725 x)) = x
+float_of (Some (OfPitch79 x)) = x

@@ -5,7 +5,7 @@
 // specs/Pitch.antt, since no operation on the way loses anything.
 #![tactic(auto)]
 
-ghost use Rattle.std.specs.Prelude.{◌≡◌, pos};
+ghost use Rattle.std.specs.Prelude.{◌≡◌, pos, Some};
 ghost use Rattle.pitch.specs.Dyadic.{Dyadic, nearest};
 ghost use Rattle.pitch.specs.Pitch.{base_of, bend_of, float_of, pitch_of, shown_as};
 ghost use Rattle.pitch.specs.Claims.{Exactness, Operations};
@@ -18,10 +18,9 @@ pub enum Base {
     Pitch79(u16),
 }
 
-// What is shown: which of the three it was, together with the pitch; or nothing.
-#[derive(Clone, Copy)]
+// What is shown: which of the three it was, together with the pitch.
+#[derive(Clone, Copy, PartialEq)]
 pub enum Shown {
-    Nothing,
     Number(f64),
     Pitch725(f64),
     Pitch79(f64),
@@ -55,7 +54,7 @@ pub fn pitch(base: Base, bend: u32, units: u8) -> f64
 // The pitch together with what it was counted from.
 pub fn show(base: Base, bend: u32, units: u8) -> Shown
     ensures shown { result ≡ shown_as base (nearest 31 (pitch_of base bend units)) }
-    ensures exact { Dyadic 42 31 (float_of result) (pitch_of base bend units) }
+    ensures exact { Dyadic 42 31 (float_of (Some result)) (pitch_of base bend units) }
 {
     let p = pitch(base, bend, units);
     match base {
@@ -65,15 +64,13 @@ pub fn show(base: Base, bend: u32, units: u8) -> Shown
     }
 }
 
-// The pitch that is shown, and 0 where there is none.
-pub fn shown_pitch(shown: Shown) -> f64
+// The pitch that is shown, and 0 where nothing is.
+pub fn shown_pitch(shown: Option<Shown>) -> f64
     ensures { result ≡ float_of shown }
 {
     match shown {
-        Shown::Nothing => 0.0,
-        Shown::Number(p) => p,
-        Shown::Pitch725(p) => p,
-        Shown::Pitch79(p) => p,
+        None => 0.0,
+        Some(Shown::Number(p) | Shown::Pitch725(p) | Shown::Pitch79(p)) => p,
     }
 }
 

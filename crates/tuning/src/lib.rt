@@ -6,16 +6,16 @@
 #![tactic(auto)]
 
 ghost use Rattle.std.specs.Prelude.{◌≡◌};
+ghost use Rattle.std.specs.Result.{result_ok};
 ghost use Rattle.ump.specs.Word.{data1 as note_of};
 ghost use Rattle.pitch.specs.Dyadic.{Dyadic};
 ghost use Rattle.pitch.specs.Pitch.{float_of};
-ghost use Rattle.tuning.specs.Desk.{acted, answer_as, answer_at, asked_for, asked_range, base_under, ends_all, fresh};
-ghost use Rattle.tuning.specs.Desk.{heard, is_for, message_of, refusing, silenced, sound_of, whole_as, whole_at};
-ghost use Rattle.tuning.specs.Desk.{with_bend, with_pitch, with_sound};
+ghost use Rattle.tuning.specs.Desk.{acted, answer_at, answer_of, base_for, ends_all, fresh, heard, is_for};
+ghost use Rattle.tuning.specs.Desk.{message_of, range_of, silenced, sound_of, whole_at, with_pitch, with_sound};
 
 use pitch::{Base, Shown, show};
 use screen::{GOES_ON, NEITHER_TYPE, screen};
-use stream::{ANSWERED, BAD_RANGE, NOT_SOUNDING};
+use stream::{BAD_RANGE, NOT_SOUNDING};
 use ump::{
     Channel, Group, MIDI2_VOICE, byte3, byte4, channel_of, data1, group_of, message_type,
     packet_at, status, word_at,
@@ -46,58 +46,55 @@ pub enum Sound {
     At(u16),
 }
 
-// The Pitch 7.25 that came last for a note number.
+// What is known of a note number: whether it sounds, and the Pitch 7.25 that came last for it.
 #[derive(Clone, Copy)]
-pub enum Tuned {
-    Never,
-    To(u32),
-}
-
-// What is known of a note number.
-#[derive(Clone, Copy)]
-pub struct Note {
+pub struct Key {
     pub sound: Sound,
+    pub tuned: Option<u32>,
 }
 
-#[derive(Clone, Copy)]
-pub struct Tuning {
-    pub tuned: Tuned,
-}
-
-// What is known of the desk's channel: its bend, and of each note number whether it sounds and what
-// Pitch 7.25 came for it.
+// What is known of the desk's channel: its bend, and what is known of each note number.
 #[derive(Clone, Copy)]
 pub struct Desk {
     pub group: Group,
     pub channel: Channel,
     pub bend: u32,
-    pub notes: [Note; NOTES],
-    pub tunings: [Tuning; NOTES],
+    pub keys: [Key; NOTES],
 }
 
-// What is answered for a note: what is shown, or why nothing is.
+// Why nothing is shown of a note.
 #[derive(Clone, Copy)]
-pub struct Answer {
-    pub answer: u32,
-    pub shown: Shown,
+pub enum NotShown {
+    BadRange,
+    NotSounding,
+}
+
+impl NotShown {
+    // The number of the answer that says so.
+    pub fn answer(self) -> u32
+        ensures { result ≡ answer_of self }
+    {
+        match self {
+            NotShown::BadRange => BAD_RANGE,
+            NotShown::NotSounding => NOT_SOUNDING,
+        }
+    }
 }
 
 // A desk that has heard nothing yet.
+#[tactic(auto, unfolding(crate::specs::Desk::fresh))]
 pub fn fresh_desk(group: Group, channel: Channel) -> Desk
     ensures { result ≡ fresh group channel }
 {
-    let silent = Note {
+    let key = Key {
         sound: Sound::Silent,
-    };
-    let never = Tuning {
-        tuned: Tuned::Never,
+        tuned: None,
     };
     Desk {
         group,
         channel,
         bend: CENTRE,
-        notes: [silent; NOTES],
-        tunings: [never; NOTES],
+        keys: [key; NOTES],
     }
 }
 
@@ -105,75 +102,32 @@ pub fn fresh_desk(group: Group, channel: Channel) -> Desk
 fn with_sound(desk: Desk, w: u32, sound: Sound) -> Desk
     ensures { result ≡ with_sound desk (note_of w) sound }
 {
-    let group = desk.group;
-    let channel = desk.channel;
-    let mut notes = desk.notes;
-    let tunings = desk.tunings;
-    let k = data1(w) as usize;
-    notes[k] = Note { sound };
-    Desk {
-        group,
-        channel,
-        bend: desk.bend,
-        notes,
-        tunings,
-    }
+    let mut keys = desk.keys;
+    keys[data1(w) as usize].sound = sound;
+    Desk { keys, ..desk }
 }
 
 // The desk where Pitch 7.25 came for the note of a packet.
 fn with_pitch(desk: Desk, w: u32, v: u32) -> Desk
     ensures { result ≡ with_pitch desk (note_of w) v }
 {
-    let group = desk.group;
-    let channel = desk.channel;
-    let notes = desk.notes;
-    let mut tunings = desk.tunings;
-    let k = data1(w) as usize;
-    let tuned = Tuned::To(v);
-    tunings[k] = Tuning { tuned };
-    Desk {
-        group,
-        channel,
-        bend: desk.bend,
-        notes,
-        tunings,
-    }
+    let mut keys = desk.keys;
+    keys[data1(w) as usize].tuned = Some(v);
+    Desk { keys, ..desk }
 }
 
 // The desk where no note sounds.
 fn silent(desk: Desk) -> Desk
     ensures { result ≡ silenced desk }
 {
-    let group = desk.group;
-    let channel = desk.channel;
-    let tunings = desk.tunings;
-    let silent = Note {
-        sound: Sound::Silent,
-    };
-    Desk {
-        group,
-        channel,
-        bend: desk.bend,
-        notes: [silent; NOTES],
-        tunings,
+    let mut keys = desk.keys;
+    for key in &mut keys {
+        *key = Key {
+            sound: Sound::Silent,
+            ..*key
+        };
     }
-}
-
-// The desk with another bend.
-fn with_bend(desk: Desk, v: u32) -> Desk
-    ensures { result ≡ with_bend desk v }
-{
-    let group = desk.group;
-    let channel = desk.channel;
-    let notes = desk.notes;
-    let tunings = desk.tunings;
-    Desk {
-        group,
-        channel,
-        bend: v,
-        notes,
-        tunings,
-    }
+    Desk { keys, ..desk }
 }
 
 // How the note of a Note On sounds.
@@ -194,43 +148,26 @@ fn ends_all(index: u8) -> bool
 }
 
 // What a MIDI 2.0 voice message of the channel makes of the desk, by its two words.
+#[tactic(auto, unfolding(crate::specs::Desk::acted, crate::specs::Desk::message_of))]
 fn act(desk: Desk, w: u32, v: u32) -> Desk
     ensures { result ≡ acted desk (message_of w v) }
 {
-    let s = status(w);
-    if s == 0 {
-        if byte4(w) == PITCH {
-            return with_pitch(desk, w, v);
-        }
-        return desk;
+    match status(w) {
+        0 if byte4(w) == PITCH => with_pitch(desk, w, v),
+        8 => with_sound(desk, w, Sound::Silent),
+        9 => with_sound(desk, w, sound_of(w, v)),
+        11 if ends_all(byte3(w)) => silent(desk),
+        14 => Desk { bend: v, ..desk },
+        _ => desk,
     }
-    if s == 8 {
-        return with_sound(desk, w, Sound::Silent);
-    }
-    if s == 9 {
-        return with_sound(desk, w, sound_of(w, v));
-    }
-    if s == 11 {
-        if ends_all(byte3(w)) {
-            return silent(desk);
-        }
-        return desk;
-    }
-    if s == 14 {
-        return with_bend(desk, v);
-    }
-    desk
 }
 
 // Whether a packet is a MIDI 2.0 voice message of the desk's channel, by its first word.
 fn is_for(desk: Desk, w: u32) -> bool
     ensures { result ≡ is_for desk.group desk.channel w }
 {
-    let group = desk.group;
-    let channel = desk.channel;
-    let g = group_of(w);
-    let c = channel_of(w);
-    (message_type(w) == MIDI2_VOICE) & ((g.0 == group.0) & (c.0 == channel.0))
+    (message_type(w) == MIDI2_VOICE)
+        & ((group_of(w).0 == desk.group.0) & (channel_of(w).0 == desk.channel.0))
 }
 
 // Hears the packet at the start of the words. One that is cut, not sound, or not of the channel changes
@@ -249,73 +186,42 @@ pub fn hear(desk: Desk, words: &[u32]) -> Desk
     }
 }
 
-fn refuse(answer: u32) -> Answer
-    ensures { result ≡ refusing answer }
+// What a note is counted from, where it sounds.
+fn base_for(key: Key, note: u8) -> Result<Base, NotShown>
+    ensures { result ≡ base_for key.sound key.tuned note }
 {
-    Answer {
-        answer,
-        shown: Shown::Nothing,
+    match key.sound {
+        Sound::Silent => Err(NotShown::NotSounding),
+        Sound::Plain => Ok(match key.tuned {
+            None => Base::Number(note),
+            Some(w) => Base::Pitch725(w),
+        }),
+        Sound::At(h) => Ok(Base::Pitch79(h)),
     }
 }
 
-// What a note is counted from that came without Pitch 7.9.
-fn base_under(tuned: Tuned, note: u8) -> Base
-    ensures { result ≡ base_under tuned note }
+// The range in units, where it may be one.
+fn range_of(units: u32, cents: u32) -> Result<u8, NotShown>
+    ensures { result ≡ range_of units cents }
 {
-    match tuned {
-        Tuned::Never => Base::Number(note),
-        Tuned::To(w) => Base::Pitch725(w),
-    }
-}
-
-// The answer for a note that sounds, by what it is counted from.
-fn answer_from(base: Base, bend: u32, units: u32, cents: u32) -> Answer
-    ensures answer { result ≡ answer_as (asked_range base units cents) bend units }
-    ensures exact { Dyadic 42 31 (float_of result.shown) (whole_as (asked_range base units cents) bend units) }
-{
-    if cents == 0 {
-        if units <= MOST_UNITS {
-            let shown = show(base, bend, units as u8);
-            Answer {
-                answer: ANSWERED,
-                shown,
-            }
-        } else {
-            refuse(BAD_RANGE)
-        }
+    if (cents == 0) & (units <= MOST_UNITS) {
+        Ok(units as u8)
     } else {
-        refuse(BAD_RANGE)
-    }
-}
-
-// The answer for a note, by how it sounds and what came for its number.
-fn answer_for(sound: Sound, tuned: Tuned, note: u8, bend: u32, units: u32, cents: u32) -> Answer
-    ensures answer { result ≡ answer_as (asked_for sound tuned note units cents) bend units }
-    ensures exact { Dyadic 42 31 (float_of result.shown)
-        (whole_as (asked_for sound tuned note units cents) bend units) }
-{
-    match sound {
-        Sound::Silent => refuse(NOT_SOUNDING),
-        Sound::Plain => answer_from(base_under(tuned, note), bend, units, cents),
-        Sound::At(h) => answer_from(Base::Pitch79(h), bend, units, cents),
+        Err(NotShown::BadRange)
     }
 }
 
 // What is shown of a note, where the range of the bend is given as units and cents.
-pub fn ask(desk: Desk, note: u8, units: u32, cents: u32) -> Answer
+#[tactic(auto, unfolding(crate::specs::Desk::asked_at, crate::specs::Desk::answer_as, crate::specs::Desk::whole_as))]
+pub fn ask(desk: Desk, note: u8, units: u32, cents: u32) -> Result<Shown, NotShown>
     ensures answer { result ≡ answer_at desk note units cents }
-    ensures exact { Dyadic 42 31 (float_of result.shown) (whole_at desk note units cents) }
+    ensures exact { Dyadic 42 31 (float_of (result_ok result)) (whole_at desk note units cents) }
 {
     let k = note as usize;
-    if k < NOTES {
-        let notes = desk.notes;
-        let tunings = desk.tunings;
-        let known = notes[k];
-        let tuning = tunings[k];
-        let sound = known.sound;
-        let tuned = tuning.tuned;
-        answer_for(sound, tuned, note, desk.bend, units, cents)
-    } else {
-        refuse(NOT_SOUNDING)
+    if k >= NOTES {
+        return Err(NotShown::NotSounding);
     }
+    let base = base_for(desk.keys[k], note)?;
+    let range = range_of(units, cents)?;
+    Ok(show(base, desk.bend, range))
 }

@@ -13,6 +13,6 @@ use Rattle.desk_claims.proofs.examples.Goals as goal
 pub returns : goal.returns
 unfolding Packet.size Packet.packet Check.good_status Check.voice2_fields Check.checked_fields Check.bad_place
     Screen.outside Screen.admitted Screen.screen_by Dyadic.nearest round Desk.message_of Desk.said Desk.fresh
-    Desk.acted Desk.heard Desk.asked_range Desk.asked_for Desk.asked_at Desk.answer_as heard_all
+    Desk.acted Desk.heard Desk.asked_at Desk.answer_as heard_all
     Examples.examples Examples.Examples
 returns c = refl

@@ -1,18 +1,14 @@
--- `display::picture::is_same_picture`: the loop's invariant is that the notes below are compared. The measure is the
--- notes left.
-use mathlib.Core.Path.{sym}
-use native.Mathlib.Omega.{arith}
-use Rattle.display.proofs.LineLaws.{same_none, same_turn}
+-- `display::picture::is_same_picture`: every note is compared.
+use mathlib.Core.Path.{refl, ◌∙◌}
+use Rattle.std.proofs.Common.{rules, tests}
+use Rattle.std.proofs.lemmas.Iterator.{YieldsList-from_range}
+use Rattle.std.proofs.lemmas.Iterator.Search.{all_from_yields_List}
+use Rattle.display.proofs.LineLaws.{compared, is_same}
 use Rattle.display.proofs.picture.is_same_picture.Goals as goal
 
-pub loop-note-preserved : goal.loop-note-preserved
-loop-note-preserved c =
-    let l = c.loop-note in
-    let a = c.args in (
-      omega arith,
-      same_turn a.one a.other a.units l.note _ _ _ _ c.ask-first.ensures.answer c.ask-second.ensures.answer
-          l.invariant.1 c.is_same_shown-same.ensures,
-    )
-
-pub loop-note-init : goal.loop-note-init
-loop-note-init c = (omega arith, sym (same_none c.args.one c.args.other c.args.units))
+pub returns : goal.returns
+returns c =
+    let a = c.args in
+    all_from_yields_List (is_same a.one a.other a.units) _ _ _ c.all.ensures.ran
+    (YieldsList-from_range 0 128 128 refl refl) (λ x b q k. search (rules, tests))
+    ∙ compared a.one a.other a.units 128

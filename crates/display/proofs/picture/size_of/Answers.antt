@@ -5,20 +5,8 @@ use Rattle.display.proofs.picture.size_of.Goals as goal
 
 pub float_to_int-result : goal.float_to_int-result
 unfolding of_bits
-float_to_int-result c =
-    ((turned _ c.requires).1 c.if-p.true).0
+float_to_int-result c = rw c.abs.ensures.value (turned _ c.requires).1
 
-pub float_to_int-result-else-p : goal.float_to_int-result-else-p
+pub returns : goal.returns
 unfolding of_bits
-float_to_int-result-else-p c =
-    ((turned _ c.requires).2 c.if-p.false).0
-
-pub returns-then-p : goal.returns-then-p
-unfolding of_bits
-returns-then-p c =
-    ((turned _ c.requires).1 c.if-p.true).1
-
-pub returns-else-p : goal.returns-else-p
-unfolding of_bits
-returns-else-p c =
-    ((turned _ c.requires).2 c.if-p.false).1
+returns c = rw c.abs.ensures.value (turned _ c.requires).2
