@@ -52,6 +52,7 @@ fn put_field(note: u8, name: &[u8], p: f64, row: &mut [u8], at: usize) -> usize
 }
 
 // What is shown of a note, if anything is.
+// Kept: a desk and its range are no struct, since two desks are compared, and heard one from another, with one range.
 fn shown(desk: Desk, units: u32, note: u8) -> Option<Shown>
     ensures is { result ≡ shown_at desk units note }
     ensures parts { Parts (float_of result) }
@@ -116,6 +117,7 @@ pub fn line(desk: Desk, units: u32, out: &mut [u8], to: usize) -> usize
     ensures place { result ≡ place_after out.old to (line_of desk units) }
     ensures text { out.new ≡ with_row out.old to (line_of desk units) }
 {
+    // Kept: memory is fixed here, so the line is made in a buffer that has room for the longest.
     let mut row = [0u8; LINE_BYTES];
     let n = put_line(desk, units, &mut row);
     text::row(&row[..n], out, to)

@@ -60,6 +60,7 @@ pub fn exact(size: u64, out: &mut [u8], to: usize) -> usize
     ensures place { result ≡ place_after out.old to (exact_decimal size) }
     ensures text { out.new ≡ with_row out.old to (exact_decimal size) }
 {
+    // Kept: memory is fixed here, so the row is made in a buffer that has room for the longest.
     let mut row = [0u8; ROW_BYTES];
     let n = put_exact(size, &mut row);
     text::row(&row[..n], out, to)

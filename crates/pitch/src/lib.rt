@@ -38,6 +38,7 @@ fn base_pitch(base: Base) -> f64
 }
 
 // What a bend adds where its range is so many units.
+// Kept: a bend and its range are no struct, since nothing else reads them and a desk is asked with many ranges.
 fn offset(bend: u32, units: u8) -> f64
     ensures { Dyadic 41 31 result (bend_of bend units) }
 {
