@@ -5,7 +5,7 @@ use mathlib.Core.Bool.{Bool, true, false, cond}
 use mathlib.Core.List.{List, [], ◌∷◌, ◌++◌, append_assoc, append-nil}
 use native.Mathlib.Omega.{arith}
 use native.Mathlib.Nat.{add-zero, zero-add, add_assoc, sub-zero}
-use lib.Dec.{eqb, leb}
+use lib.Dec.{eqb}
 use lib.ListN.{drop, drop_of_length-le, get_or, length, length-append, length-drop, take, take-append-drop}
 use lib.Seq.{drop_at, drop-cons, drop-drop, length-take-le, take_at}
 use borrow.Author.Tests.{eq-eqb, le-leb, lt-leb, ne_eqb}
@@ -21,7 +21,7 @@ use Rattle.cable.specs.Hearing.{Call, byte_in, unread}
 use Rattle.cable.proofs.Ways.{Next, next-in}
 use Rattle.inlet.specs.declared.Imported.{Imported}
 use Rattle.inlet.specs.Inlet.{calls_in, fit_in, made, next_in, ran_in, reported, took}
-use Rattle.inlet.proofs.CallLaws.{first-left, none_left, quiet-fits}
+use Rattle.inlet.proofs.CallLaws.{first-left}
 
 -- the calls after one start at the bytes that it left
 pub calls-cons : (g : ℕ) (s : Cable) (b : ℕ) (bs : List ℕ)

@@ -1,37 +1,27 @@
 -- Rows of bytes for the output: one that is stored, one that has no room, and none; and the row of an exclusive's
 -- packet, which is stored in three parts. Assumes nothing.
-use Prim.Native.Nat.{ℕ, ◌+◌, ◌-◌, ◌≤◌, ◌<◌}
+use Prim.Native.Nat.{ℕ, ◌+◌, ◌≤◌}
 use mathlib.Core.Path.{◌≡◌, refl, sym, ◌∙◌}
 use mathlib.Core.Bool.{Bool, true, false}
 use mathlib.Core.List.{List, [], ◌++◌}
 use native.Mathlib.Omega.{arith}
 use lib.ListN.{length, length-append, take}
-use borrow.Author.Tests.{leb-true}
+use Rattle.std.specs.Prelude.{Some}
+use Rattle.ground.proofs.StoreLaws.{written_none}
 use lib.Seq.{length-take-le, sets, sets-eq}
 use Rattle.ground.proofs.Stores.{sets-append}
 use Rattle.cable.specs.State.{pick}
-use Rattle.cable.proofs.PutLaws.{put_all, put-none, put-short}
-use Rattle.outlet.specs.declared.Sent.{Sent}
+use Rattle.cable.specs.Put.{Puts}
 use Rattle.outlet.specs.Outlet.{six}
-use Rattle.outlet.specs.Sending.{Sends, framed, marked}
+use Rattle.outlet.specs.Sending.{framed, marked}
 
 module _ (bs : List ℕ) (to : ℕ) (out : List ℕ) where
-  pub stored : (s : Sent) (after : List ℕ) → s ≡ record { fits = true; count = length bs } → to + length bs ≤ length out
-      → after ≡ sets out to bs → Sends bs to out s after
-  stored s after e h f = rw e (record { counts = refl; puts = put_all bs to out after h (f ∙ sets-eq bs out to h) })
+  pub stored : (after : List ℕ) (end : ℕ) → end ≡ to + length bs → to + length bs ≤ length out
+      → after ≡ sets out to bs → Puts bs to out (Some end) after
+  stored after end e h f = (h, e, f ∙ sets-eq bs out to h)
 
-  pub tight : (s : Sent) → s ≡ record { fits = false; count = length bs } → length out - to < length bs
-      → Sends bs to out s out
-  tight s e h = rw e (record { counts = refl; puts = put-short bs to out h })
-
-  pub nothing : (s : Sent) → s ≡ record { fits = true; count = 0 } → bs ≡ [] → Sends bs to out s out
-  nothing s e z = rw (e, z) (record { counts = refl; puts = put-none [] to out refl })
-
--- what is stored stands inside the output
-pub inside : {bs out after : List ℕ} {to : ℕ} {s : Sent} → Sends bs to out s after → to ≤ length out → s.fits ≡ true
-    → to + s.count ≤ length out
-inside {bs} {out} {after} {to} {s} q h t =
-    omega (arith, q.counts, leb-true (length bs) (length out - to) (sym q.puts.answer ∙ t))
+  pub nothing : bs ≡ [] → to ≤ length out → Puts bs to out (Some to) out
+  nothing e h = rw e (omega (arith, h), omega arith, sym (written_none to out))
 
 -- six bytes are left of six at most where no fewer are
 pub all-six : (n : ℕ) → n ≤ 6 → (n ≡ 0 → ⊥) → (n ≡ 1 → ⊥) → (n ≡ 2 → ⊥) → (n ≡ 3 → ⊥) → (n ≡ 4 → ⊥) → (n ≡ 5 → ⊥)

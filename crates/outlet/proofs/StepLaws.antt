@@ -5,10 +5,10 @@ use mathlib.Core.Path.{◌≡◌, refl, sym, ap, ◌∙◌}
 use mathlib.Core.Bool.{Bool, true, false, cond, ◌&&◌}
 use mathlib.Core.List.{List, [], ◌∷◌}
 use native.Mathlib.Omega.{arith}
-use native.Mathlib.Nat.{add-zero, sub-zero}
+use native.Mathlib.Nat.{add-zero, sub-zero, zero-add}
 use lib.Dec.{eqb, leb, leb-zero}
 use lib.ListN.{drop, get_or, length}
-use borrow.Author.Tests.{eqb-false, eqb-true, leb-true, ne_eqb}
+use borrow.Author.Tests.{eqb-false, eqb-true, le-leb, leb-true, lt-leb, ne_eqb}
 use Rattle.ground.specs.Store.{written}
 use Rattle.ground.proofs.Bools.{and_left, and_right}
 use Rattle.ground.proofs.Cases.{by_bool}
@@ -24,13 +24,13 @@ use Rattle.stream.specs.Report.{counting, placing, reported_call}
 use Rattle.screen.specs.Screen.{reserved}
 use Rattle.stream.specs.Run.{called, run}
 use Rattle.stream.proofs.RunLoop.{DidRun, Then, turn}
+use Rattle.cable.specs.Put.{Puts}
 use Rattle.cable.specs.State.{pick}
-use Rattle.outlet.specs.declared.Sent.{Sent}
+use Rattle.std.specs.Prelude.{Option, Some, None}
 use Rattle.outlet.specs.Outlet.{bytes_of, ours, packet_out, step_out}
-use Rattle.outlet.specs.Sending.{Sends, call_at, clean, onward, passing, sends, told_one, told_run, unsent}
+use Rattle.outlet.specs.Sending.{call_at, clean, onward, passing, sends, told_one, told_run, unsent}
 use Rattle.outlet.proofs.CallLaws.{Outs, choice, cut_out, other-out, other_answer, ours-out}
 use Rattle.outlet.proofs.CallLaws.{out-inside, out-near, verdict}
-use Rattle.outlet.proofs.RowLaws.{nothing}
 
 -- of the types of ours the third is left
 pub third : (g w : ℕ) → ours g w ≡ true → (message_type w ≡ 2 → ⊥) → (message_type w ≡ 1 → ⊥) → message_type w ≡ 3
@@ -41,20 +41,18 @@ third g w o two one =
     omega (arith, low, high, one, two)
 
 -- what became of a packet that goes, in a run
-module _
-    (read to n a : ℕ) (p bs out after : List ℕ) (s : Sent) (many : length p ≡ n) (q : Sends bs to out s after)
-  where
-    abbrev c : Call (ℕ × Unit {0})
-    c = fit (length out - to) (went a bs tt)
+module _ (read to n a : ℕ) (p bs out after : List ℕ) (many : length p ≡ n) where
+  abbrev c : Call (ℕ × Unit {0})
+  c = fit (length out - to) (went a bs tt)
 
-    pub passes : (told_run s n read to ≡ onward read to p c) × (after ≡ written to (sent_of c) out)
-    passes =
-        by_bool (leb (length bs) (length out - to))
-        (λ t. (rw (q.puts.answer, t, q.counts, many), rw t (rw t at q.puts.holds)))
-        (λ t. (
-          rw (q.puts.answer, t, add-zero read, add-zero to),
-          rw t (rw t at q.puts.holds ∙ sym (written_none to out)),
-        ))
+  pub passes : (s : Option ℕ) → Puts bs to out s after
+      → (told_run s n read to ≡ onward read to p c) × (after ≡ written to (sent_of c) out)
+  passes None q =
+      let t = lt-leb (length bs) (length out - to) q.0 in
+      (rw (t, add-zero read, add-zero to), rw t (q.1 ∙ sym (written_none to out)))
+  passes (Some end) q =
+      let t = le-leb (length bs) (length out - to) (omega (arith, q.0)) in
+      (rw (t, q.1, many), rw t q.2)
 
 -- a packet of ours, one that is not, and none
 module _ (g read to : ℕ) (p out : List ℕ) where
@@ -64,19 +62,17 @@ module _ (g read to : ℕ) (p out : List ℕ) where
   abbrev Told : Done → List ℕ → Type 0
   Told r after = (r ≡ onward read to p made) × (after ≡ written to (sent_of made) out)
 
-  pub passes-ours : (n : ℕ) (s : Sent) (after : List ℕ) → length p ≡ n → (n ≡ 0 → ⊥) → ours g (first p) ≡ true
-      → Sends (sends (first p) (second p)) to out s after → Told (told_run s n read to) after
+  pub passes-ours : (n : ℕ) (s : Option ℕ) (after : List ℕ) → length p ≡ n → (n ≡ 0 → ⊥) → ours g (first p) ≡ true
+      → Puts (sends (first p) (second p)) to out s after → Told (told_run s n read to) after
   passes-ours n s after many some o q =
       rw (ours-out g p (λ z. some (sym many ∙ z)) o)
-      (passes read to n (verdict (first p) (second p)) p (sends (first p) (second p)) out after s many q)
+      (passes read to n (verdict (first p) (second p)) p (sends (first p) (second p)) out after many s q)
 
   pub passes-other : (n : ℕ) → length p ≡ n → (n ≡ 0 → ⊥) → ours g (first p) ≡ false
       → Told (counting sent (read + n) to) out
   passes-other n many some o =
-      let none : Sent = record { fits = true; count = 0 } in
-      rw (other-out g p (λ z. some (sym many ∙ z)) o)
-      (rw (add-zero to) at
-      (passes read to n (other_answer (first p)) p [] out out none many (nothing [] to out none refl refl)))
+      rw (other-out g p (λ z. some (sym many ∙ z)) o, leb-zero (length out - to))
+      (rw (many, add-zero to), sym (written_none to out))
 
   pub stops-cut : p ≡ [] → Told (counting cut_packet read to) out
   stops-cut e = (
@@ -92,13 +88,13 @@ module _ (g read to : ℕ) (ws out : List ℕ) (here : read < length ws) where
   abbrev Next : Done → List ℕ → Type 0
   Next r after = Told g read to (packet (drop read ws)) out r after
 
-  pub next_one : size at ≡ 1 → ours g at ≡ true → (s : Sent) (after : List ℕ) → Sends (sends at 0) to out s after
+  pub next_one : size at ≡ 1 → ours g at ≡ true → (s : Option ℕ) (after : List ℕ) → Puts (sends at 0) to out s after
       → Next (told_run s 1 read to) after
   next_one e o s after q =
       rw (one_word ws read here e) (passes-ours g read to (at ∷ []) out 1 s after refl (λ z. omega (arith, z)) o q)
 
-  pub next-two : size at ≡ 2 → 2 ≤ length ws - read → ours g at ≡ true → (s : Sent) (after : List ℕ)
-      → Sends (sends at (get_or ws (read + 1) 0)) to out s after → Next (told_run s 2 read to) after
+  pub next-two : size at ≡ 2 → 2 ≤ length ws - read → ours g at ≡ true → (s : Option ℕ) (after : List ℕ)
+      → Puts (sends at (get_or ws (read + 1) 0)) to out s after → Next (told_run s 2 read to) after
   next-two e h o s after q =
       rw (two-words ws read here e h)
       (passes-ours g read to (at ∷ get_or ws (read + 1) 0 ∷ []) out 2 s after refl (λ z. omega (arith, z)) o q)
@@ -120,20 +116,12 @@ module _ (g : ℕ) (p out : List ℕ) where
   abbrev Alone : Done → List ℕ → Type 0
   Alone r after = (r ≡ reported_call p (called p (length out, tt) lone)) × (after ≡ written 0 (sent_of lone) out)
 
-  pub alone-ours : (n : ℕ) (s : Sent) (after : List ℕ) → length p ≡ n → (n ≡ 0 → ⊥) → ours g (first p) ≡ true
-      → Sends (sends (first p) (second p)) 0 out s after → Alone (told_one (first p) (second p) s n) after
+  pub alone-ours : (n : ℕ) (s : Option ℕ) (after : List ℕ) → length p ≡ n → (n ≡ 0 → ⊥) → ours g (first p) ≡ true
+      → Puts (sends (first p) (second p)) 0 out s after → Alone (told_one (first p) (second p) s n) after
   unfolding told_one sends clean pick
   alone-ours n s after many some o q =
-      let w = first p in
-      let v = second p in
-      let room = rw (sub-zero (length out)) at q.puts.answer in
-      let held = (passes 0 0 n (verdict w v) p (sends w v) out after s many q).1 in
-      rw (ours-out g p (λ z. some (sym many ∙ z)) o) (
-        by_bool (leb (length (sends w v)) (length out))
-            (λ t. rw (room, t, q.counts, many) (go (good_status w) (eqb (bad_place_of p) 0) (bad_place_of p) (bytes_of w v)))
-            (λ t. rw (room, t)),
-        rw (sub-zero (length out)) at held,
-      )
+      let held = (passes 0 0 n (verdict (first p) (second p)) p (sends (first p) (second p)) out after many s q).1 in
+      rw (ours-out g p (λ z. some (sym many ∙ z)) o) (tells s q, rw (sub-zero (length out)) at held)
     where
       go : (s b : Bool) (k : ℕ) (bs : List ℕ)
           → cond (eqb (length (pick (s && b) bs [])) 0) (unsent (choice s b k taken_in) n)
@@ -145,6 +133,20 @@ module _ (g : ℕ) (p out : List ℕ) where
       go true false k bs = refl
       go true true k [] = refl
       go true true k (x ∷ bs) = rw (ne_eqb (suc (length bs)) 0 (λ e. omega (arith, e)))
+
+      tells : (s : Option ℕ) → Puts (sends (first p) (second p)) 0 out s after
+          → told_one (first p) (second p) s n
+          ≡ reported_call p (called p (length out, tt {0})
+          (fit (length out) (went (verdict (first p) (second p)) (sends (first p) (second p)) (tt {0}))))
+      tells None q = rw (lt-leb (length (sends (first p) (second p))) (length out) (omega (arith, q.0)))
+      tells (Some end) q =
+          rw (
+            le-leb (length (sends (first p) (second p))) (length out) (omega (arith, q.0)),
+            q.1,
+            zero-add (length (sends (first p) (second p))),
+            many,
+          )
+          (go (good_status (first p)) (eqb (bad_place_of p) 0) (bad_place_of p) (bytes_of (first p) (second p)))
 
   pub alone-other : (w n : ℕ) → first p ≡ w → length p ≡ n → (n ≡ 0 → ⊥) → ours g w ≡ false
       → Alone (counting (other_answer w) n 0) out
@@ -163,13 +165,13 @@ module _ (g : ℕ) (ws out : List ℕ) (here : 0 < length ws) where
   abbrev First : Done → List ℕ → Type 0
   First r after = Alone g (packet ws) out r after
 
-  pub first_one : size at0 ≡ 1 → ours g at0 ≡ true → (s : Sent) (after : List ℕ) → Sends (sends at0 0) 0 out s after
+  pub first_one : size at0 ≡ 1 → ours g at0 ≡ true → (s : Option ℕ) (after : List ℕ) → Puts (sends at0 0) 0 out s after
       → First (told_one at0 0 s 1) after
   first_one e o s after q =
       rw (one_word ws 0 here e) (alone-ours g (at0 ∷ []) out 1 s after refl (λ z. omega (arith, z)) o q)
 
-  pub first_two : size at0 ≡ 2 → 2 ≤ length ws → ours g at0 ≡ true → (s : Sent) (after : List ℕ)
-      → Sends (sends at0 (get_or ws 1 0)) 0 out s after → First (told_one at0 (get_or ws 1 0) s 2) after
+  pub first_two : size at0 ≡ 2 → 2 ≤ length ws → ours g at0 ≡ true → (s : Option ℕ) (after : List ℕ)
+      → Puts (sends at0 (get_or ws 1 0)) 0 out s after → First (told_one at0 (get_or ws 1 0) s 2) after
   first_two e h o s after q =
       rw (two-words ws 0 here e (omega (arith, h)))
       (alone-ours g (at0 ∷ get_or ws 1 0 ∷ []) out 2 s after refl (λ z. omega (arith, z)) o q)

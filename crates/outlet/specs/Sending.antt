@@ -1,5 +1,5 @@
--- What a packet for the cable sends, by its first two words, and what became of it.
-use Rattle.std.specs.Prelude.{ℕ, ◌+◌, ◌-◌, ◌*◌, ◌%◌, ◌^◌, Bool, cond, ◌&&◌, ◌||◌, ◌≡◌, List, [], ◌∷◌, ◌++◌, eqb, leb, drop, length, take}
+-- What a packet for the cable sends, by its first two words, and what is told of it.
+use Rattle.std.specs.Prelude.{ℕ, ◌+◌, ◌-◌, ◌*◌, ◌%◌, ◌^◌, Bool, cond, ◌&&◌, ◌||◌, List, [], ◌∷◌, ◌++◌, Option, Some, None, eqb, leb, drop, length, take}
 use Rattle.ump.specs.Word.{byte2, byte3, byte4}
 use Rattle.fields.specs.Check.{checked_fields, good_fields, good_status}
 use Rattle.stream.specs.declared.Done.{Done}
@@ -8,9 +8,7 @@ use Rattle.stream.specs.Call.{Call, read_of, sent_of, stopped, went, within}
 use Rattle.stream.specs.Report.{counting, placing}
 use Rattle.screen.specs.Screen.{Screened}
 use Rattle.screen.specs.Screen.{checking}
-use Rattle.cable.specs.Put.{Put}
 use Rattle.cable.specs.State.{pick}
-use Rattle.outlet.specs.declared.Sent.{Sent}
 use Rattle.outlet.specs.Outlet.{bytes_of, six, step_out}
 
 -- nothing of the packet is bad
@@ -44,11 +42,6 @@ framed opens closes n w v = marked opens 0xF0 ++ take n (six w v) ++ marked clos
 abbrev pub payload_number : ℕ → ℕ → ℕ
 payload_number w v = w % 2 ^ 16 * 2 ^ 32 + v
 
--- what is told of a row of bytes that goes to a place of the output: how many they are, and whether they are there
-pub record Sends (bs : List ℕ) (to : ℕ) (out : List ℕ) (s : Sent) (after : List ℕ) : Type 0 where
-  pub counts : s.count ≡ length bs
-  pub puts : Put bs to out s.fits after
-
 -- what a run makes of a call: it goes on where the packet was read, and else has the answer that stops it
 abbrev pub passing : {T : Type 0} → Call T → ℕ
 passing (went a ws u) = sent
@@ -58,20 +51,19 @@ passing (stopped a) = a
 abbrev pub onward : {T : Type 0} → ℕ → ℕ → List ℕ → Call T → Done
 onward read to p c = counting (passing c) (read + read_of p c) (to + length (sent_of c))
 
--- what a run is told of a packet of n words
-abbrev pub told_run : Sent → ℕ → ℕ → ℕ → Done
-told_run s n read to = cond s.fits (counting sent (read + n) (to + s.count)) (counting no_room read to)
+-- what a run is told of a packet of n words, by the place behind its bytes
+abbrev pub told_run : Option ℕ → ℕ → ℕ → ℕ → Done
+told_run None n read to = counting no_room read to
+told_run (Some end) n read to = counting sent (read + n) end
 
 -- what a call alone is told of it: where nothing was sent, the check tells why
 abbrev pub unsent : Screened → ℕ → Done
 unsent found n = placing found.answer found.place n 0
 
-unfoldable pub told_one : ℕ → ℕ → Sent → ℕ → Done
-told_one w v s n =
-    cond s.fits
-    (cond (eqb s.count 0) (unsent (checking (good_status w) (checked_fields w v) taken_in) n)
-    (counting sent n s.count))
-    (counting no_room 0 0)
+unfoldable pub told_one : ℕ → ℕ → Option ℕ → ℕ → Done
+told_one w v None n = counting no_room 0 0
+told_one w v (Some end) n =
+    cond (eqb end 0) (unsent (checking (good_status w) (checked_fields w v) taken_in) n) (counting sent n end)
 
 -- the call at a place of the words, with the output from a place on; and at the start of both
 abbrev pub call_at : ℕ → List ℕ → ℕ → ℕ → List ℕ → Call (ℕ × Unit {0})

@@ -3,12 +3,11 @@ ghost use Rattle.std.specs.Prelude.{◌≡◌, map, ◌+◌, ◌≤◌, length, 
 ghost use Rattle.std.proofs.lemmas.List.Edits.{sets};
 ghost use Rattle.ump.specs.Word.{message_type};
 ghost use Rattle.fields.specs.Check.{good_fields, seven};
+ghost use Rattle.cable.specs.Put.{Puts};
 ghost use Rattle.cable.specs.State.{pick};
 ghost use Rattle.outlet.specs.Outlet.{six};
-ghost use Rattle.outlet.specs.Sending.{Sends, clean, framed, marked, payload_number, sends};
+ghost use Rattle.outlet.specs.Sending.{clean, framed, marked, payload_number, sends};
 
-use crate::Sent;
-use crate::rows::told;
 use cable::{END_OF_EXCLUSIVE, EXCLUSIVE};
 use ump::{byte1, byte2, byte3, byte4, count, status};
 
@@ -75,20 +74,20 @@ fn send_framed(
     v: u32,
     out: &mut [u8],
     to: usize,
-) -> Sent
+) -> Option<usize>
     requires { (n ≤ 6) × (to ≤ length out.old) }
-    ensures { Sends (framed opens closes n w v) to out.old result out.new }
+    ensures { Puts (framed opens closes n w v) to out.old result out.new }
 {
     let head = places(opens);
     let tail = places(closes);
     let all = head + n + tail;
     if out.len() - to < all {
-        return told(false, all);
+        return None;
     }
     put_marked(opens, EXCLUSIVE, out, to);
     put_payload(n, w, v, out, to + head);
     put_marked(closes, END_OF_EXCLUSIVE, out, to + head + n);
-    told(true, all)
+    Some(to + all)
 }
 
 // The six bytes of a payload as one number.
@@ -123,9 +122,9 @@ fn is_clean(w: u32, v: u32) -> bool
 
 // A packet of an exclusive: F0 stands before the complete and the start packet, F7 behind the complete
 // and the end packet.
-pub(crate) fn send_exclusive(w: u32, v: u32, out: &mut [u8], to: usize) -> Sent
+pub(crate) fn send_exclusive(w: u32, v: u32, out: &mut [u8], to: usize) -> Option<usize>
     requires { (message_type w ≡ 3) × (to ≤ length out.old) }
-    ensures { Sends (sends w v) to out.old result out.new }
+    ensures { Puts (sends w v) to out.old result out.new }
 {
     if is_clean(w, v) {
         let form = status(w);
@@ -139,6 +138,6 @@ pub(crate) fn send_exclusive(w: u32, v: u32, out: &mut [u8], to: usize) -> Sent
             to,
         )
     } else {
-        told(true, 0)
+        Some(to)
     }
 }

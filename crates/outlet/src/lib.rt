@@ -12,10 +12,3 @@ mod packets;
 mod rows;
 
 pub use packets::{export, run_export, screen_out};
-
-// What became of the bytes that a packet sends: whether they had room, and how many they are.
-#[derive(Clone, Copy)]
-struct Sent {
-    fits: bool,
-    count: usize,
-}

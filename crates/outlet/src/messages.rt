@@ -1,46 +1,46 @@
 // Messages of one word, from the word into the output.
 ghost use Rattle.std.specs.Prelude.{◌≡◌, ◌≤◌, length};
 ghost use Rattle.ump.specs.Word.{message_type};
-ghost use Rattle.outlet.specs.Sending.{Sends, alone, sends, with_one, with_two};
+ghost use Rattle.cable.specs.Put.{Puts};
+ghost use Rattle.outlet.specs.Sending.{alone, sends, with_one, with_two};
 
-use crate::Sent;
-use crate::rows::{send_one, send_three, send_two, told};
+use crate::rows::send;
 use ump::{byte2, byte3, byte4, status};
 
 // The most that a data byte may be.
 const MOST: u8 = 127;
 
 // The status byte and one data byte, if that is good.
-fn send_with_one(w: u32, out: &mut [u8], to: usize) -> Sent
+fn send_with_one(w: u32, out: &mut [u8], to: usize) -> Option<usize>
     requires { to ≤ length out.old }
-    ensures { Sends (with_one w) to out.old result out.new }
+    ensures { Puts (with_one w) to out.old result out.new }
 {
     let a = byte3(w);
     if a <= MOST {
-        send_two(byte2(w), a, out, to)
+        send([byte2(w), a], out, to)
     } else {
-        told(true, 0)
+        Some(to)
     }
 }
 
 // The status byte and two data bytes, if both are good.
-fn send_with_two(w: u32, out: &mut [u8], to: usize) -> Sent
+fn send_with_two(w: u32, out: &mut [u8], to: usize) -> Option<usize>
     requires { to ≤ length out.old }
-    ensures { Sends (with_two w) to out.old result out.new }
+    ensures { Puts (with_two w) to out.old result out.new }
 {
     let a = byte3(w);
     let b = byte4(w);
     if (a <= MOST) & (b <= MOST) {
-        send_three(byte2(w), a, b, out, to)
+        send([byte2(w), a, b], out, to)
     } else {
-        told(true, 0)
+        Some(to)
     }
 }
 
 // A MIDI 1.0 voice message: program change and channel pressure have one data byte.
-pub(crate) fn send_voice(w: u32, out: &mut [u8], to: usize) -> Sent
+pub(crate) fn send_voice(w: u32, out: &mut [u8], to: usize) -> Option<usize>
     requires { (message_type w ≡ 2) × (to ≤ length out.old) }
-    ensures { Sends (sends w 0) to out.old result out.new }
+    ensures { Puts (sends w 0) to out.old result out.new }
 {
     if fields::is_voice1_status(w) {
         let s = status(w);
@@ -50,7 +50,7 @@ pub(crate) fn send_voice(w: u32, out: &mut [u8], to: usize) -> Sent
             send_with_two(w, out, to)
         }
     } else {
-        told(true, 0)
+        Some(to)
     }
 }
 
@@ -62,13 +62,13 @@ fn is_alone(b: u8) -> bool
 }
 
 // A system message: F2 has two data bytes, F1 and F3 have one.
-pub(crate) fn send_system(w: u32, out: &mut [u8], to: usize) -> Sent
+pub(crate) fn send_system(w: u32, out: &mut [u8], to: usize) -> Option<usize>
     requires { (message_type w ≡ 1) × (to ≤ length out.old) }
-    ensures { Sends (sends w 0) to out.old result out.new }
+    ensures { Puts (sends w 0) to out.old result out.new }
 {
     let b = byte2(w);
     if is_alone(b) {
-        return send_one(b, out, to);
+        return send([b], out, to);
     }
     if b == 0xF2 {
         return send_with_two(w, out, to);
@@ -76,6 +76,6 @@ pub(crate) fn send_system(w: u32, out: &mut [u8], to: usize) -> Sent
     if (b == 0xF1) | (b == 0xF3) {
         send_with_one(w, out, to)
     } else {
-        told(true, 0)
+        Some(to)
     }
 }

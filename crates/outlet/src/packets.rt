@@ -1,5 +1,5 @@
 // One packet, and the run.
-ghost use Rattle.std.specs.Prelude.{◌≡◌, cond, true, ◌+◌, ◌≤◌, ◌<◌, ◌^◌, drop, length};
+ghost use Rattle.std.specs.Prelude.{◌≡◌, cond, ◌+◌, ◌≤◌, ◌<◌, ◌^◌, drop, length};
 ghost use Rattle.ground.specs.Store.{at_start, written};
 ghost use Rattle.ump.specs.Packet.{cut, packet};
 ghost use Rattle.ump.specs.Word.{message_type};
@@ -12,7 +12,6 @@ ghost use Rattle.stream.specs.Run.{called, run};
 ghost use Rattle.outlet.specs.Outlet.{one_out, ours, run_out, screen_out, step_out};
 ghost use Rattle.outlet.specs.Sending.{call_at, call_now, onward, told_one, told_run};
 
-use crate::Sent;
 use crate::exclusives::send_exclusive;
 use crate::messages::{send_system, send_voice};
 use screen::{GOES_ON, Screened};
@@ -55,17 +54,8 @@ fn check(w: u32, v: u32, good: u32) -> Screened
 {
     if fields::is_good_status(w) {
         let place = fields::bad_place(w, v);
-        if place == 0 {
-            Screened {
-                answer: good,
-                place: 0,
-            }
-        } else {
-            Screened {
-                answer: BAD_DATA,
-                place,
-            }
-        }
+        let answer = if place == 0 { good } else { BAD_DATA };
+        Screened { answer, place }
     } else {
         Screened {
             answer: BAD_STATUS,
@@ -96,14 +86,13 @@ pub fn screen_out(group: u8, packet: &[u32]) -> Screened
 }
 
 // What a run is told of a packet of n words, after what was read and written so far.
-fn passed(s: Sent, n: usize, read: usize, to: usize) -> Done
-    requires { (read + n < 2 ^ 64) × (s.fits ≡ true → to + s.count < 2 ^ 64) }
-    ensures { result ≡ told_run s n read to }
+fn passed(end: Option<usize>, n: usize, read: usize, to: usize) -> Done
+    requires { read + n < 2 ^ 64 }
+    ensures { result ≡ told_run end n read to }
 {
-    if s.fits {
-        report(SENT, read + n, to + s.count)
-    } else {
-        report(NO_ROOM, read, to)
+    match end {
+        Some(end) => report(SENT, read + n, end),
+        None => report(NO_ROOM, read, to),
     }
 }
 
@@ -143,18 +132,17 @@ fn export_next(group: u8, words: &[u32], read: usize, out: &mut [u8], to: usize)
 }
 
 // What a call alone is told of a packet of n words. Where it sent nothing, the check tells why.
-fn told_alone(w: u32, v: u32, s: Sent, n: usize) -> Done
-    ensures { result ≡ told_one w v s n }
+#[tactic(auto, unfolding(crate::specs::Sending::told_one))]
+fn told_alone(w: u32, v: u32, end: Option<usize>, n: usize) -> Done
+    ensures { result ≡ told_one w v end n }
 {
-    if s.fits {
-        if s.count == 0 {
+    match end {
+        Some(0) => {
             let found = check(w, v, TAKEN_IN);
             report_place(found.answer, found.place, n, 0)
-        } else {
-            report(SENT, n, s.count)
         }
-    } else {
-        report(NO_ROOM, 0, 0)
+        Some(end) => report(SENT, n, end),
+        None => report(NO_ROOM, 0, 0),
     }
 }
 

@@ -19,4 +19,4 @@ returns-then-is_clean c =
 pub returns-else-is_clean : goal.returns-else-is_clean
 returns-else-is_clean c =
     let bad = sym c.is_clean.ensures ∙ c.if-is_clean.false in
-    nothing _ _ _ _ c.told.ensures (exclusive-none c.args.w c.args.v c.requires.0 bad)
+    nothing _ _ _ (exclusive-none c.args.w c.args.v c.requires.0 bad) c.requires.1

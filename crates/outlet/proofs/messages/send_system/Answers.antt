@@ -9,7 +9,7 @@ pub returns-then-is_alone : goal.returns-then-is_alone
 returns-then-is_alone c =
     let b = c.byte2-b.ensures in
     let a = rw b at (sym c.is_alone.ensures ∙ c.if-is_alone.true) in
-    rw (system-alone c.args.w 0 c.requires.0 a, ← b) c.send_one.ensures
+    rw (system-alone c.args.w 0 c.requires.0 a, ← b) c.send.ensures
 
 pub returns-then-b : goal.returns-then-b
 returns-then-b c =
@@ -27,4 +27,4 @@ returns-else-b-2 c =
     let a = rw b at (sym c.is_alone.ensures ∙ c.if-is_alone.false) in
     let n = rw b at c.if-b.false in
     let k = rw b at c.if-b-2.false in
-    nothing _ _ _ _ c.told.ensures (system-none c.args.w 0 c.requires.0 a n k)
+    nothing _ _ _ (system-none c.args.w 0 c.requires.0 a n k) c.requires.1

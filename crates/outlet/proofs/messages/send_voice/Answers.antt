@@ -20,4 +20,4 @@ returns-else-s c =
 pub returns-else-is_voice1_status : goal.returns-else-is_voice1_status
 returns-else-is_voice1_status c =
     let bad = sym c.is_voice1_status.ensures ∙ c.if-is_voice1_status.false in
-    nothing _ _ _ _ c.told.ensures (voice-none c.args.w 0 c.requires.0 bad)
+    nothing _ _ _ (voice-none c.args.w 0 c.requires.0 bad) c.requires.1

@@ -9,9 +9,9 @@ pub returns-then-a-le-MOST : goal.returns-then-a-le-MOST
 unfolding with_one pick
 returns-then-a-le-MOST c =
     let b = c.byte3-a.ensures in
-    simp (tests, ← b, c.if-a-le-MOST.true, ← c.byte2.ensures) c.send_two.ensures
+    simp (tests, ← b, c.if-a-le-MOST.true, ← c.byte2.ensures) c.send.ensures
 
 pub returns-else-a-le-MOST : goal.returns-else-a-le-MOST
 unfolding with_one pick
 returns-else-a-le-MOST c =
-    nothing _ _ _ _ c.told.ensures (simp (tests, ← c.byte3-a.ensures, c.if-a-le-MOST.false))
+    nothing _ _ _ (simp (tests, ← c.byte3-a.ensures, c.if-a-le-MOST.false)) c.requires

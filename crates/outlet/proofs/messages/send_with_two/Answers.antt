@@ -9,11 +9,11 @@ unfolding with_two pick
 returns-then-a-b c =
     let a = c.byte3-a.ensures in
     let b = c.byte4-b.ensures in
-    simp (← a, ← b, c.if-a-b.true, ← c.byte2.ensures) c.send_three.ensures
+    simp (← a, ← b, c.if-a-b.true, ← c.byte2.ensures) c.send.ensures
 
 pub returns-else-a-b : goal.returns-else-a-b
 unfolding with_two pick
 returns-else-a-b c =
     let a = c.byte3-a.ensures in
     let b = c.byte4-b.ensures in
-    nothing _ _ _ _ c.told.ensures (simp (← a, ← b, c.if-a-b.false))
+    nothing _ _ _ (simp (← a, ← b, c.if-a-b.false)) c.requires
