@@ -6,29 +6,25 @@ use mathlib.Core.List.{List, [], ◌∷◌, ◌++◌}
 use native.Mathlib.Omega.{arith}
 use native.Mathlib.Nat.{add-zero}
 use lib.Dec.{leb, leb-zero}
-use lib.ListN.{drop, length, length-append, take}
+use lib.ListN.{length, length-append}
 use lib.Seq.{sets-eq}
 use borrow.Author.Tests.{eq-eqb, leb-true, ne_eqb}
 use Rattle.ground.specs.Store.{written}
 use Rattle.ground.proofs.StoreLaws.{written_none}
-use Rattle.ump.specs.Packet.{cut, packet, size}
-use Rattle.ump.proofs.PacketLaws.{packet-near}
 use Rattle.stream.specs.declared.Done.{Done}
 use Rattle.stream.specs.Answers.{no_room, sent, stops_run}
-use Rattle.stream.specs.Call.{Call, fit, left_of, read_of, refused, sent_of, stopped, went, within}
+use Rattle.stream.specs.Call.{Call, fit, left_of, refused, sent_of, stopped, went}
 use Rattle.stream.specs.Report.{counting, further, placing}
-use Rattle.stream.specs.Run.{run}
 use Rattle.stream.proofs.CallLaws.{refusal, refused-fits}
-use Rattle.stream.proofs.RunLoop.{DidRun, Inside, Runs, packet-inside, turn}
 use Rattle.text.specs.Lines.{decimal, place_after, with_row}
 use Rattle.screen.specs.Screen.{Screened}
-use Rattle.screen.specs.Screen.{goes_on, neither_type, open_rule, screen, screen_by, screened}
+use Rattle.screen.specs.Screen.{goes_on, neither_type, open_rule, screen, screened}
 use Rattle.screen.proofs.ScreenLaws.{cut-only, screen-place}
 use Rattle.tuning.specs.declared.Desk.{Desk}
 use Rattle.tuning.specs.Desk.{heard}
 use Rattle.display.specs.declared.DeskAndReport.{DeskAndReport}
 use Rattle.display.specs.Line.{count_below, fields_below, line_of, same_below}
-use Rattle.display.specs.Run.{new_line, show, shown_of, turned}
+use Rattle.display.specs.Run.{new_line, shown_of}
 
 -- a line has its end
 line-some : (d : Desk) (units : ℕ) → 0 < length (line_of d units)
@@ -113,45 +109,7 @@ module _ (units : ℕ) (past : Done) (d : Desk) (p text : List ℕ) where
               λ z. absurd (z m.0),
             )
 
--- ---- the run
-
-module _ (units : ℕ) where
-  pub show-near : (d : Desk) (w : ℕ) (s : List ℕ) → show units d (take (size w) (w ∷ s)) ≡ show units d (w ∷ s)
-  unfolding show
-  show-near d w s = rw (packet-near w s)
-
-  pub show-inside : (d : Desk) (w : ℕ) (s : List ℕ) → Inside (w ∷ s) (show units d (w ∷ s))
-  unfolding show screened screen_by refused
-  show-inside d w s = packet-inside (shown_of units d) refl w s
-
-  module _ (d₀ : Desk) (ws out₀ : List ℕ) where
-    -- what was done, and then the run from here, is the whole run
-    abbrev pub So : Desk → List ℕ → ℕ → ℕ → Type 0
-    So d out i n = Runs (show units) show-near show-inside d₀ ws out₀ d out i n
-
-    module _ (d : Desk) (out : List ℕ) (i n : ℕ) (inv : So d out i n) (h : i < length ws) (r : DeskAndReport) (after : List ℕ) where
-      abbrev c : Call (ℕ × Desk)
-      c = within (show units) (length out - n, d) (drop i ws)
-
-      left-same : (m k : ℕ) (x : Call (ℕ × Desk)) → (left_of (m, d) x).1 ≡ (left_of (k, d) x).1
-      left-same m k (went a vs u) = refl
-      left-same m k (stopped a) = refl
-
-      pub one_more : r ≡ turned (counting sent i n) d ws c → after ≡ written n (sent_of c) out
-          → ((r.done.read ≡ i → ⊥) → So r.desk after r.done.read r.done.written × (i < r.done.read))
-          × (r.done.read ≡ i
-          → DidRun (run (within (show units)) (length out₀, d₀) (cut ws)) out₀ r.done.answer r.done.read r.done.written r.desk after)
-      one_more e f =
-          let k = read_of (packet (drop i ws)) c in
-          let m = length (sent_of c) in
-          let er : r.done.read ≡ i + k = ap (λ (y : DeskAndReport). y.done.read) e in
-          let ew : r.done.written ≡ n + m = ap (λ (y : DeskAndReport). y.done.written) e in
-          let ea = ap (λ (y : DeskAndReport). y.done.answer) e in
-          let el = ap (λ (y : DeskAndReport). y.desk) e ∙ left-same 0 (length out - n) c in
-          let t = turn (show units) show-near show-inside d₀ ws out₀ d out i n r.done.answer k m r.desk after inv h
-          (record { answers = ea; reads = refl; writes = refl; leaves = el; holds = f }) in (
-            λ z. let v = t.0 (λ q. z (er ∙ omega (arith, q))) in (rw (er, ew) v.0, omega (arith, er, v.1)),
-            λ z. let v = t.1 (omega (arith, er, z)) in
-                let y : r.done.written ≡ n = omega (arith, ew, v.1) in
-                rw (z, y) v.0,
-          )
+-- what a call leaves is the same, whatever room there is beside the desk
+pub left-same : (d : Desk) (m k : ℕ) (x : Call (ℕ × Desk)) → (left_of (m, d) x).1 ≡ (left_of (k, d) x).1
+left-same d m k (went a vs u) = refl
+left-same d m k (stopped a) = refl

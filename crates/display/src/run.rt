@@ -4,10 +4,11 @@ ghost use Rattle.ground.specs.Store.{at_start, written};
 ghost use Rattle.stream.specs.Call.{sent_of};
 ghost use Rattle.stream.specs.Report.{reported};
 ghost use Rattle.display.specs.Run.{run_shown, show_at, turned};
+ghost use Rattle.display.specs.Showing.{showing, showing-own};
 
 use crate::{DeskAndReport, is_same_picture, line};
-use screen::{GOES_ON, NEITHER_TYPE, screen};
-use stream::{Done, NO_ROOM, SENT, report, report_place};
+use screen::screen;
+use stream::{Calls, Done, NO_ROOM, SENT, report, report_place, run_calls};
 use tuning::{Desk, hear};
 use ump::packet_at;
 
@@ -22,23 +23,49 @@ fn show_next(words: &[u32], past: Done, desk: Desk, units: u32, text: &mut [u8])
     let to = past.written;
     let packet = packet_at(words, read);
     let next = read + packet.len();
-    let screened = screen(NEITHER_TYPE, packet);
-    if screened.answer != GOES_ON {
-        let done = report_place(screened.answer, screened.place, next, to);
-        return DeskAndReport { desk, done };
+    match screen(None, packet) {
+        Err(refusal) => {
+            let done = report_place(refusal.answer, refusal.place, next, to);
+            DeskAndReport { desk, done }
+        }
+        Ok(()) => {
+            let after = hear(desk, packet);
+            if is_same_picture(desk, after, units) {
+                let done = report(SENT, next, to);
+                return DeskAndReport { desk: after, done };
+            }
+            let end = line(after, units, text, to);
+            if end == to {
+                let done = report(NO_ROOM, read, to);
+                return DeskAndReport { desk, done };
+            }
+            let done = report(SENT, next, end);
+            DeskAndReport { desk: after, done }
+        }
     }
-    let after = hear(desk, packet);
-    if is_same_picture(desk, after, units) {
-        let done = report(SENT, next, to);
-        return DeskAndReport { desk: after, done };
+}
+
+// What a run of the desk keeps: the desk, and the units of its range.
+#[derive(Clone, Copy)]
+pub(crate) struct Showing {
+    desk: Desk,
+    units: u32,
+}
+
+impl Calls for Showing {
+    type Written = u8;
+
+    ghost numbers = { λ text. text };
+
+    ghost step = { showing };
+
+    fn call(&mut self, words: &[u32], past: Done, text: &mut [u8]) -> Done {
+        let shown = show_next(words, past, self.desk, self.units, text);
+        self.desk = shown.desk;
+        shown.done
     }
-    let end = line(after, units, text, to);
-    if end == to {
-        let done = report(NO_ROOM, read, to);
-        return DeskAndReport { desk, done };
-    }
-    let done = report(SENT, next, end);
-    DeskAndReport { desk: after, done }
+
+    ghost own_packet = { showing-own };
 }
 
 // The packets of the words, until the line of one has no room or the words end.
@@ -50,27 +77,10 @@ pub fn show_some(desk: Desk, units: u32, words: &[u32], text: &mut [u8]) -> Desk
         (run_shown units (length text.old) desk words.now).sends text.old }
     ensures read { result.done.read ≤ length words.now }
 {
-    let mut current = desk;
-    let mut read: usize = 0;
-    let mut written: usize = 0;
-    while read < words.len() {
-        let shown = show_next(words, report(SENT, read, written), current, units, text);
-        let after = shown.desk;
-        let done = shown.done;
-        current = after;
-        if done.read == read {
-            let done = report(done.answer, read, done.written);
-            return DeskAndReport {
-                desk: current,
-                done,
-            };
-        }
-        read = done.read;
-        written = done.written;
-    }
-    let done = report(SENT, read, written);
+    let mut showing = Showing { desk, units };
+    let done = run_calls(&mut showing, words, text);
     DeskAndReport {
-        desk: current,
+        desk: showing.desk,
         done,
     }
 }

@@ -66,8 +66,7 @@ impl<'a> Host<'a> {
         }
         Rule {
             beginners: false,
-            fenced: true,
-            groups,
+            fence: Some(groups),
         }
     }
 

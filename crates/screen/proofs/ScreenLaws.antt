@@ -20,7 +20,7 @@ use Rattle.stream.specs.Report.{place_told}
 use Rattle.screen.specs.declared.Rule.{Rule}
 use Rattle.screen.specs.Screen.{Screened}
 use Rattle.fields.specs.Check.{Field, bad_place, bad_place_of, checked_fields, good_fields, good_status, unchanged}
-use Rattle.std.specs.Prelude.{Option, Some, None, Ok, Err, is_some}
+use Rattle.std.specs.Prelude.{Option, Some, None, Ok, Err, is_ok, is_some}
 use Rattle.screen.specs.declared.Refusal.{Refusal}
 use Rattle.screen.specs.Screen.{beyond, judged, admitted, answering, beginners_rule, check_voice1, checking, for_beginners}
 use Rattle.screen.specs.Screen.{fenced_rule, goes_on, outside, reserved, ruled, screen, screen_by, screen_voice1, screened}
@@ -204,3 +204,6 @@ judged-err s x h = by_bool (eqb s.answer goes_on)
         let answer : x.answer ≡ s.answer = cc bad in
         let place : x.place ≡ s.place = cc bad in
         (eqb-false s.answer goes_on e, (answer, place)))
+
+pub judged-is_ok : (s : Screened) → is_ok (judged s) ≡ eqb s.answer goes_on
+judged-is_ok s = by_bool (eqb s.answer goes_on) (λ e. rw e) (λ e. rw e)

@@ -1,5 +1,5 @@
 // The run of whatever treats a packet at a time: one loop for all of them.
-ghost use Rattle.std.specs.Prelude.{◌≡◌, ℕ, List, ◌-◌, drop, length};
+ghost use Rattle.std.specs.Prelude.{◌≡◌, ◌≤◌, ℕ, List, ◌-◌, drop, length};
 ghost use Rattle.ground.specs.Store.{at_start, written};
 ghost use Rattle.ump.specs.Packet.{packet};
 ghost use Rattle.stream.specs.Call.{Call, left_of, sent_of};
@@ -38,6 +38,7 @@ pub fn run_calls<C: Calls>(calls: &mut C, words: &[u32], out: &mut [C::Written])
     ensures state { calls.new ≡ (whole_run C.step words.now (length (C.numbers out.old)) calls.old).left.1 }
     ensures output { C.numbers out.new
         ≡ at_start (whole_run C.step words.now (length (C.numbers out.old)) calls.old).sends (C.numbers out.old) }
+    ensures inside { result.read ≤ length words.now }
 {
     let mut read: usize = 0;
     let mut written: usize = 0;

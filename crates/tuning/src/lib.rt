@@ -14,7 +14,7 @@ ghost use Rattle.tuning.specs.Desk.{acted, answer_at, answer_of, base_for, ends_
 ghost use Rattle.tuning.specs.Desk.{message_of, range_of, silenced, sound_of, whole_at, with_pitch, with_sound};
 
 use pitch::{Base, Shown, show};
-use screen::{GOES_ON, NEITHER_TYPE, screen};
+use screen::screen;
 use stream::{BAD_RANGE, NOT_SOUNDING};
 use ump::{
     Channel, Group, MIDI2_VOICE, byte3, byte4, channel_of, data1, group_of, message_type,
@@ -178,8 +178,7 @@ pub fn hear(desk: Desk, words: &[u32]) -> Desk
     let packet = packet_at(words, 0);
     let w = word_at(packet, 0);
     let v = word_at(packet, 1);
-    let screened = screen(NEITHER_TYPE, packet);
-    if (screened.answer == GOES_ON) & is_for(desk, w) {
+    if screen(None, packet).is_ok() & is_for(desk, w) {
         act(desk, w, v)
     } else {
         desk

@@ -1,12 +1,12 @@
 -- `display::run::show_next`: a refused packet leaves the desk, a sound one is heard, and its line is written where it
 -- is
 -- another. Assumes nothing.
-use mathlib.Core.Path.{◌≡◌, sym, ap, ◌∙◌}
+use mathlib.Core.Path.{refl, sym, ap, ◌∙◌}
 use native.Mathlib.Omega.{arith}
 use lib.ListN.{drop, length, length-drop}
 use Rattle.ump.proofs.PacketLaws.{packet-length}
-use Rattle.screen.specs.Screen.{Screened}
-use Rattle.screen.specs.Screen.{goes_on, neither_type, screen}
+use Rattle.screen.specs.Screen.{neither_type, screen}
+use Rattle.screen.proofs.ScreenLaws.{judged-err, judged-ok}
 use Rattle.stream.specs.Call.{within}
 use Rattle.display.specs.Run.{show}
 use Rattle.display.proofs.ShowLaws.{at-line, at-refused, at_same}
@@ -20,28 +20,27 @@ overflow_add-next c =
       fits = omega (arith, ap length c.packet_at-packet.ensures, packet-length s, length-drop a.past.read a.words.now);
     }
 
-pub returns-then-screened-ne-GOES_ON : goal.returns-then-screened-ne-GOES_ON
+pub returns-in-Err : goal.returns-in-Err
 unfolding show within
-returns-then-screened-ne-GOES_ON c =
+returns-in-Err c =
     let p = c.packet_at-packet in
     let a = c.args in
-    let z = at-refused a.units a.past a.desk p.result.now a.text.now _ c.screen-screened.ensures
-    c.if-screened-ne-GOES_ON.true in
+    let s = screen neither_type p.result.now in
+    let r = judged-err s c.in-Err.refusal (sym c.screen.ensures ∙ c.in-Err.is) in
+    let z = at-refused a.units a.past a.desk p.result.now a.text.now s refl r.0 in
     rw (← p.ensures) record {
-      turn = rw c.report_place-done.ensures z.0;
+      turn = rw (c.report_place-done.ensures, r.1.0, r.1.1) z.0;
       text = z.1;
     }
 
 pub returns-then-is_same_picture : goal.returns-then-is_same_picture
 unfolding show within
 returns-then-is_same_picture c =
-    let goes : c.screen-screened.result.answer ≡ goes_on → (screen neither_type c.packet_at-packet.result.now).answer
-    ≡ goes_on =
-    λ e. sym (ap (λ (y : Screened). y.answer) c.screen-screened.ensures) ∙ e in
+    let goes = judged-ok (screen neither_type c.packet_at-packet.result.now) (sym c.screen.ensures ∙ c.in-Ok.is) in
     let p = c.packet_at-packet in
     let a = c.args in
     let s = rw c.hear-after.ensures at (sym c.is_same_picture.ensures ∙ c.if-is_same_picture.true) in
-    let z = at_same a.units a.past a.desk p.result.now a.text.now (goes c.if-screened-ne-GOES_ON.false) s in
+    let z = at_same a.units a.past a.desk p.result.now a.text.now goes s in
     rw (← p.ensures) record {
       turn = rw (c.hear-after.ensures, c.report-done.ensures) z.0;
       text = z.1;
@@ -50,13 +49,11 @@ returns-then-is_same_picture c =
 pub returns-then-end-to : goal.returns-then-end-to
 unfolding show within
 returns-then-end-to c =
-    let goes : c.screen-screened.result.answer ≡ goes_on → (screen neither_type c.packet_at-packet.result.now).answer
-    ≡ goes_on =
-    λ e. sym (ap (λ (y : Screened). y.answer) c.screen-screened.ensures) ∙ e in
+    let goes = judged-ok (screen neither_type c.packet_at-packet.result.now) (sym c.screen.ensures ∙ c.in-Ok.is) in
     let p = c.packet_at-packet in
     let a = c.args in
     let s = rw c.hear-after.ensures at (sym c.is_same_picture.ensures ∙ c.if-is_same_picture.false) in
-    let z = (at-line a.units a.past a.desk p.result.now a.text.now (goes c.if-screened-ne-GOES_ON.false) s _ _
+    let z = (at-line a.units a.past a.desk p.result.now a.text.now goes s _ _
     (rw c.hear-after.ensures at c.line-end.ensures.place, rw c.hear-after.ensures at c.line-end.ensures.text)).0
     c.if-end-to.true in
     rw (← p.ensures) record {
@@ -64,19 +61,17 @@ returns-then-end-to c =
       text = z.1;
     }
 
-pub returns : goal.returns
+pub returns-else-end-to : goal.returns-else-end-to
 unfolding show within
-returns c =
-    let goes : c.screen-screened.result.answer ≡ goes_on → (screen neither_type c.packet_at-packet.result.now).answer
-    ≡ goes_on =
-    λ e. sym (ap (λ (y : Screened). y.answer) c.screen-screened.ensures) ∙ e in
+returns-else-end-to c =
+    let goes = judged-ok (screen neither_type c.packet_at-packet.result.now) (sym c.screen.ensures ∙ c.in-Ok.is) in
     let p = c.packet_at-packet in
     let a = c.args in
     let s = rw c.hear-after.ensures at (sym c.is_same_picture.ensures ∙ c.if-is_same_picture.false) in
-    let z = (at-line a.units a.past a.desk p.result.now a.text.now (goes c.if-screened-ne-GOES_ON.false) s _ _
+    let z = (at-line a.units a.past a.desk p.result.now a.text.now goes s _ _
     (rw c.hear-after.ensures at c.line-end.ensures.place, rw c.hear-after.ensures at c.line-end.ensures.text)).1
     c.if-end-to.false in
     rw (← p.ensures) record {
-      turn = rw (c.hear-after.ensures, c.report-done-2.ensures) z.0;
+      turn = rw (c.hear-after.ensures, c.report-done-in-Ok.ensures) z.0;
       text = z.1;
     }

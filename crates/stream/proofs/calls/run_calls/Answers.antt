@@ -17,6 +17,7 @@ returns-then-done-read g c =
       report = c.report-then-done-read.ensures ∙ rw c.if-done-read.true at (reports d);
       state = d.leaves;
       output = d.holds;
+      inside = rw c.report-then-done-read.ensures l.invariant.read;
     }
 
 pub loop-read-preserved : goal.loop-read-preserved
@@ -35,4 +36,9 @@ returns g c =
     let numbers = g.C.Calls.numbers in
     let d = finish g.C.Calls.step own.alone own.whole c.args.calls.now c.args.words.now (numbers c.args.out.now) l.calls
     (numbers l.out) l.read l.written l.invariant c.loop-read-test.false in
-    record { report = c.report-2.ensures ∙ reports d; state = d.leaves; output = d.holds }
+    record {
+      report = c.report-2.ensures ∙ reports d;
+      state = d.leaves;
+      output = d.holds;
+      inside = rw c.report-2.ensures l.invariant.read;
+    }
