@@ -28,6 +28,9 @@ use Rattle.tuning.specs.declared.Desk.{Desk}
 use Rattle.tuning.specs.Desk.{answer_as, asked_at, whole_as, whole_at}
 use Rattle.std.specs.Prelude.{Option, Some, None, Result, Ok, Err, is_some}
 use Rattle.std.specs.Result.{result_ok}
+use Rattle.std.specs.Option.{option_eq}
+use Rattle.std.specs.Float.Ieee.{eq}
+use Rattle.pitch.specs.contracts.ShownPartialEq.TheImpl.{ghosts}
 use Rattle.std.specs.List.{count_by, filter, list_all, range_with_len}
 use Rattle.std.proofs.lemmas.List.Folds.{list_all-append}
 use Rattle.std.proofs.lemmas.List.Sums.{length-filter, sum_by-append}
@@ -136,6 +139,26 @@ module _ (d : Desk) (units : ℕ) where
 
   pub filtered : (n : ℕ) → length (filter is_shown (range_with_len 0 n)) ≡ count_below d units n
   filtered n = length-filter is_shown (range_with_len 0 n) ∙ counted n
+
+-- what the derived comparison of two answers is
+pub agrees : (o p : Option Shown) → option_eq (λ (x y : Shown). ghosts.eq x y) o p ≡ same_shown o p
+unfolding eq
+agrees None None = refl
+agrees None (Some (OfNumber y)) = refl
+agrees None (Some (OfPitch725 y)) = refl
+agrees None (Some (OfPitch79 y)) = refl
+agrees (Some (OfNumber x)) None = refl
+agrees (Some (OfPitch725 x)) None = refl
+agrees (Some (OfPitch79 x)) None = refl
+agrees (Some (OfNumber x)) (Some (OfNumber y)) = refl
+agrees (Some (OfNumber x)) (Some (OfPitch725 y)) = refl
+agrees (Some (OfNumber x)) (Some (OfPitch79 y)) = refl
+agrees (Some (OfPitch725 x)) (Some (OfNumber y)) = refl
+agrees (Some (OfPitch725 x)) (Some (OfPitch725 y)) = refl
+agrees (Some (OfPitch725 x)) (Some (OfPitch79 y)) = refl
+agrees (Some (OfPitch79 x)) (Some (OfNumber y)) = refl
+agrees (Some (OfPitch79 x)) (Some (OfPitch725 y)) = refl
+agrees (Some (OfPitch79 x)) (Some (OfPitch79 y)) = refl
 
 module _ (d e : Desk) (units : ℕ) where
   abbrev pub is_same : ℕ → Bool

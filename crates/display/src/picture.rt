@@ -17,6 +17,8 @@ const NOTES: u8 = 128;
 const LINE_BYTES: usize = 0x2000;
 
 // A pitch times 2 to the 31, without its sign. The cast loses nothing.
+// Kept: a pitch comes out of `Shown` as a plain f64, so a struct that holds what is required of it would be made in
+// each arm of `put_shown` and taken apart here.
 fn size_of(p: f64) -> u64
     requires { Parts p }
     ensures { result ≡ nat_abs (times2 31 p) }

@@ -172,6 +172,7 @@ fn is_for(desk: Desk, w: u32) -> bool
 
 // Hears the packet at the start of the words. One that is cut, not sound, or not of the channel changes
 // nothing.
+#[tactic(auto, unfolding(crate::specs::Desk::heard, crate::specs::Desk::said, crate::specs::Desk::acted))]
 pub fn hear(desk: Desk, words: &[u32]) -> Desk
     ensures { result ≡ heard desk words.now }
 {
