@@ -33,6 +33,7 @@ pub const CHAINS: usize = 32;
 
 // One chain: how many bytes stand in its part, the fields that its packets share, and how many packets it
 // has, 0 while none is open. An open exclusive counts 1.
+// Kept: the C interface has these fields, and 0 packets for a chain that is not open.
 #[repr(C)]
 #[derive(Clone, Copy)]
 pub struct Chain {
@@ -43,6 +44,7 @@ pub struct Chain {
 
 // What a call or a run reports: the answer, the place of bad data, and the words read; the packet's chain,
 // or `NO_CHAIN`, with where its bytes stand in the buffer and how many.
+// Kept: the C interface has the answer as a number, and `NO_CHAIN` for a packet of none.
 #[repr(C)]
 #[derive(Clone, Copy)]
 pub struct Collected {
