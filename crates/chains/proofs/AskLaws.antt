@@ -21,12 +21,12 @@ use Rattle.piece.specs.Piece.{address_of, chain_by, chain_for, exclusive, flex, 
 use Rattle.chains.specs.Collect.{of_chain, sort_by, sorted}
 
 -- an exclusive's packet of six bytes
-pub six-good : (w v : ℕ) → message_type w ≡ exclusive → count w ≡ 6
+pub six_good : (w v : ℕ) → message_type w ≡ exclusive → count w ≡ 6
     → good_unchanged w v ≡ (leb (status w) 3
     && (leb (byte3 w) 127 && (leb (byte4 w) 127 && (leb (byte1 v) 127
     && (leb (byte2 v) 127 && (leb (byte3 v) 127 && leb (byte4 v) 127))))))
 unfolding good_unchanged good_status checked_fields exclusive_fields
-six-good w v e n =
+six_good w v e n =
     rw (e, counted-good (count w) (byte3 w) (byte4 w) (byte1 v) (byte2 v) (byte3 v) (byte4 v), n)
 
 -- the screening of a packet, as a yes or no

@@ -43,6 +43,7 @@ fn is_good_six(w: u32, v: u32) -> bool
                     & ((byte2(v) <= MOST) & ((byte3(v) <= MOST) & (byte4(v) <= MOST))))))
 }
 
+#[tactic(auto, using(crate::proofs::AskLaws::six_good))]
 fn is_good_exclusive(w: u32, v: u32) -> bool
     requires { message_type w ≡ exclusive }
     ensures { result ≡ good_unchanged w v }

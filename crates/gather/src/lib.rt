@@ -44,6 +44,7 @@ fn is_full(len: usize, to: usize, buffer: usize) -> bool
 }
 
 // Whether a chain is open; a packet of none has none.
+#[tactic(auto, unfolding(chains::specs::Run::open_at))]
 pub fn is_open(chains: &[Chain; CHAINS], chain: usize) -> bool
     ensures { result ≡ open_at chains.now chain }
 {
