@@ -31,6 +31,7 @@ pub(crate) fn whole_size(words: &[u32]) -> Option<usize>
 }
 
 // Whether the status and the six bytes of an exclusive's packet are good, which most of them have.
+// Kept: with the check of what passes unchanged alone, a run of the collector took an eighth longer.
 fn is_good_six(w: u32, v: u32) -> bool
     ensures { result ≡ (leb (status w) 3
         && (leb (Word.byte3 w) 127 && (leb (Word.byte4 w) 127 && (leb (Word.byte1 v) 127
