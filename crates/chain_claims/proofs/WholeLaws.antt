@@ -278,7 +278,8 @@ proved-finished = record { rows = rows; at_once = at-once-alone }
 
     at-once-alone : (k : ℕ) (w : World) (ps : List (List ℕ)) (a : List ℕ) → k < 32 → All32 w
         → (chain_at k w.chains).packets ≡ 0
-        → only k ps ≡ a ∷ [] → Piecewise k (piece_of a).shared complete a → length (payload (piece_of a)) ≤ share w.buffer
+        → only k ps ≡ a ∷ [] → Piecewise k (piece_of a).shared complete a
+        → length (payload (piece_of a)) ≤ share w.buffer
         → (held_at k (run w ps) ≡ holding (payload (piece_of a)) (piece_of a).shared (part_at k w.buffer))
         × (answers k w ps ≡ 0 ∷ [])
     at-once-alone k w ps a low full c e g r =

@@ -1,6 +1,7 @@
 -- What a call and a turn over the list say, from what those with one chain say of the chain that is read: `e` is what is
 -- read past the end, where no packet's chain stands. Assumes nothing.
-use Rattle.std.proofs.Common.{◌≡◌, ◌∙◌, ℕ, ◌<◌, Bool, true, false, cond, refl, None, Some, eqb, List, length, get_or, set, drop, ap, sym, subst}
+use Rattle.std.proofs.Common.{◌≡◌, ◌∙◌, ℕ, ◌<◌, Bool, true, false, cond, refl, None}
+use Rattle.std.proofs.Common.{Some, eqb, List, length, get_or, set, drop, ap, sym, subst}
 use Rattle.std.proofs.lemmas.List.{get_or_default}
 use lib.Seq.{set-get_or}
 use Rattle.piece.specs.Piece.{slot_by}

@@ -21,7 +21,8 @@ returns-then-one-eq0 c =
     let er = rw (rest_part a.past.read a.words.now) at e.report in
     let es = rw (rest_part a.past.read a.words.now) at e.chains in
     let eb = rw (rest_part a.past.read a.words.now) at e.buffer in
-    let z = at_cut (held_in a.collector.now a.buffer.now) (drop a.past.read a.words.now) a.text.now a.past _ _ _ er es eb
+    let z = at_cut (held_in a.collector.now a.buffer.now)
+    (drop a.past.read a.words.now) a.text.now a.past _ _ _ er es eb
     (sym c.is_full.ensures ∙ c.if-is_full.false) c.if-one-eq0.true in
     record { report = c.report-then-one-eq0.ensures ∙ z.0; held = z.1; text = z.2 }
 

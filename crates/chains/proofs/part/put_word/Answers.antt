@@ -1,4 +1,5 @@
--- `chains::part::put_word`: the four bytes of the word stand in the part that they are copied to, which has four places.
+-- `chains::part::put_word`: the four bytes of the word stand in the part that they are copied to, which has four
+-- places.
 use native.Mathlib.Omega.{arith}
 use Prim.Native.Nat.{◌+◌, ◌-◌}
 use mathlib.Core.List.{[], ◌∷◌}

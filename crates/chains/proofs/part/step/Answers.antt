@@ -1,11 +1,11 @@
--- `chains::part::step` meets its contract: a piece that is taken fits, and its two ways out are the definition's. Assumes
--- nothing.
+-- `chains::part::step` meets its contract: a piece that is taken fits, and its two ways out are the definition's.
+-- Assumes nothing.
 use Rattle.std.proofs.Common.{◌∙◌, ap, sym, arith, length, get_or}
 use Rattle.piece.specs.declared.Head.{Head}
 use Rattle.piece.proofs.PieceLaws.{head-any, piece-fine}
 use Rattle.chains.specs.Turn.{piece_at}
-use Rattle.chains.proofs.StepLaws.{head-fits, head-refused, head-taken, head-verdict, last-low, part-refused, part-taken}
-use Rattle.chains.proofs.StepLaws.{refusal-high}
+use Rattle.chains.proofs.StepLaws.{head-fits, head-refused, head-taken, head-verdict, last-low}
+use Rattle.chains.proofs.StepLaws.{part-refused, part-taken, refusal-high}
 use Rattle.chains.proofs.part.step.Goals as goal
 
 pub put-requires : goal.put-requires

@@ -15,7 +15,8 @@ offset_bounds-chains-i c =
 pub slice_copy_out-call : goal.slice_copy_out-call
 slice_copy_out-call c =
     let a = c.args in
-    read-inside a.chains.now a.buffer.now a.words.now 0 c.if-chains-ne-CHAINS.false c.slot_at-i.result c.slot_at-i.ensures
+    let i = c.slot_at-i in
+    read-inside a.chains.now a.buffer.now a.words.now 0 c.if-chains-ne-CHAINS.false i.result i.ensures
 
 pub offset_bounds-chains-i-2 : goal.offset_bounds-chains-i-2
 offset_bounds-chains-i-2 c =
@@ -27,7 +28,8 @@ offset_bounds-chains-i-2 c =
 pub bounds-chains-i : goal.bounds-chains-i
 bounds-chains-i c =
     let a = c.args in
-    read-inside a.chains.now a.buffer.now a.words.now 0 c.if-chains-ne-CHAINS.false c.slot_at-i.result c.slot_at-i.ensures
+    let i = c.slot_at-i in
+    read-inside a.chains.now a.buffer.now a.words.now 0 c.if-chains-ne-CHAINS.false i.result i.ensures
 
 pub returns : goal.returns
 returns c =
