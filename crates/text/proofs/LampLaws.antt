@@ -2,11 +2,13 @@
 use Prim.Native.Nat.{ℕ, zero, suc, ◌+◌, ◌<◌, ◌≤◌}
 use mathlib.Core.Path.{◌≡◌, refl, sym, ap, ◌∙◌}
 use mathlib.Core.Bool.{Bool}
-use mathlib.Core.List.{List, [], ◌∷◌, ◌++◌, append_assoc, append-nil}
+use mathlib.Core.List.{List, [], ◌∷◌, ◌++◌, append-nil}
 use native.Mathlib.Omega.{arith}
 use native.Mathlib.Numerals.{add-one}
-use lib.ListN.{length, length-append}
+use lib.ListN.{drop_of_length-le, length, length-append, set}
+use lib.Seq.{sets, sets-eq}
 use Rattle.ground.proofs.Cases.{choose}
+use Rattle.ground.proofs.Stores.{sets-append}
 use Rattle.keys.specs.declared.Keys.{Keys}
 use Rattle.std.specs.Prelude.{Option, None, Some}
 use Rattle.keys.specs.Keys.{down, down_count, least_down, tally}
@@ -21,15 +23,24 @@ lamps-length keys zero = refl
 lamps-length keys (suc n) =
     omega (arith, length-append (lamps_below keys n) (lamp (down keys n) ∷ []), lamps-length keys n)
 
--- the loop that adds the lamps: none yet, and one more
-pub lamps_none : (l : List ℕ) (keys : Keys) → l ≡ l ++ lamps_below keys 0
+-- the loop that stores the lamps: none yet, and one more
+pub lamps_none : (l : List ℕ) (keys : Keys) → l ≡ sets l 0 (lamps_below keys 0)
 unfolding lamps_below
-lamps_none l keys = sym (append-nil l)
+lamps_none l keys = refl
 
 pub lamps_more : (l : List ℕ) (keys : Keys) (k : ℕ)
-    → l ++ lamps_below keys k ++ (lamp (down keys k) ∷ []) ≡ l ++ lamps_below keys (k + 1)
+    → set (sets l 0 (lamps_below keys k)) k (lamp (down keys k)) ≡ sets l 0 (lamps_below keys (k + 1))
 unfolding lamps_below
-lamps_more l keys k = rw (add-one k) (append_assoc l (lamps_below keys k) (lamp (down keys k) ∷ []))
+lamps_more l keys k =
+    let n : 0 + length (lamps_below keys k) ≡ k = omega (arith, lamps-length keys k) in
+    rw (add-one k, sets-append l 0 (lamps_below keys k) (lamp (down keys k) ∷ []), n)
+
+-- all of them fill a row of their length
+pub lamps_whole : (l : List ℕ) (keys : Keys) → length l ≡ 128 → sets l 0 (lamp_row keys) ≡ lamp_row keys
+lamps_whole l keys h =
+    let n : 0 + length (lamp_row keys) ≡ 128 = omega (arith, lamps-length keys 128) in
+    let all : length l ≤ 128 = omega arith in
+    rw (sets-eq (lamp_row keys) l 0 (omega (arith, n)), n, drop_of_length-le l all) (append-nil (lamp_row keys))
 
 module _ (group channel : ℕ) (keys : Keys) (lowest : ℕ) where
   abbrev g : List ℕ

@@ -6,7 +6,8 @@ use crate::rows::put_row;
 use crate::{SPACE, places, spell};
 use std::marker::Model;
 
-// The bytes of the line so far, at most N.
+// The bytes of the line so far, at most N. A number has at most 20 digits, so each line says by its N what it
+// may come to, and where that is too little it is not proved.
 #[derive(Drop)]
 pub(crate) struct Made<const N: usize> {
     bytes: [u8; N],

@@ -13,6 +13,8 @@ use keys::Keys;
 // How many keys there are, each with a lamp.
 const KEYS: u8 = 128;
 
+const LAMPS: usize = KEYS as usize;
+
 // The lamp of a key.
 fn lamp(down: bool) -> u8
     ensures { result ≡ Lamps.lamp down }
@@ -27,9 +29,11 @@ impl<const N: usize> Made<N> {
         ensures text { self.new ≡ self.old ++ lamp_row keys }
         ensures longer { length self.new ≡ length self.old + 128 }
     {
+        let mut row = [0u8; LAMPS];
         for key in 0..KEYS {
-            self.byte(lamp(keys.is_down(key)));
+            row[key as usize] = lamp(keys.is_down(key));
         }
+        self.row(&row);
     }
 }
 
