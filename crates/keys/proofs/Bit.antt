@@ -141,13 +141,15 @@ pub least-ext : (p q : ℕ → Bool) (n : ℕ) → ((j : ℕ) → j < n → p j 
 unfolding least
 least-ext p q zero h = refl
 least-ext p q (suc n) h =
-    ap₂ (λ (x : Option ℕ) (b : Bool). or_key x (cond b (Some n) None)) (least-ext p q n (λ j l. h j (omega arith))) (h n (omega arith))
+    ap₂ (λ (x : Option ℕ) (b : Bool). or_key x (cond b (Some n) None)) (least-ext p q n (λ j l. h j (omega arith)))
+    (h n (omega arith))
 
 pub least-none : (p : ℕ → Bool) (n : ℕ) → ((j : ℕ) → j < n → p j ≡ false) → least p n ≡ None
 unfolding least or_key
 least-none p zero h = refl
 least-none p (suc n) h =
-    ap₂ (λ (x : Option ℕ) (b : Bool). or_key x (cond b (Some n) None)) (least-none p n (λ j l. h j (omega arith))) (h n (omega arith))
+    ap₂ (λ (x : Option ℕ) (b : Bool). or_key x (cond b (Some n) None)) (least-none p n (λ j l. h j (omega arith)))
+    (h n (omega arith))
 
 key-first : (p : ℕ → Bool) (k n : ℕ) → least p n ≡ Some k → least p (suc n) ≡ Some k
 unfolding least or_key
@@ -159,7 +161,8 @@ unfolding least or_key
 least-key p k zero l h o = absurd (omega arith)
 least-key p k (suc n) l h o =
     ⊎_elim (λ (e : k ≡ n).
-    ap₂ (λ (x : Option ℕ) (b : Bool). or_key x (cond b (Some n) None)) (least-none p n (λ j m. o j (omega arith))) (ap p (sym e) ∙ h) ∙ ap Some (sym e))
+    ap₂ (λ (x : Option ℕ) (b : Bool). or_key x (cond b (Some n) None)) (least-none p n (λ j m. o j (omega arith)))
+    (ap p (sym e) ∙ h) ∙ ap Some (sym e))
     (λ (m : k < n). key-first p k n (least-key p k n m h o))
     (eq-or-lt_of_le (le_of_suc-le-suc l))
 
@@ -168,7 +171,8 @@ unfoldable pub Found : (ℕ → Bool) → ℕ → Option ℕ → Type 0
 Found p n None = (j : ℕ) → j < n → p j ≡ false
 Found p n (Some k) = (k < n) × (p k ≡ true) × ((j : ℕ) → j < k → p j ≡ false)
 
-found-next : (p : ℕ → Bool) (n : ℕ) (l : Option ℕ) (b : Bool) → p n ≡ b → Found p n l → Found p (suc n) (or_key l (cond b (Some n) None))
+found-next : (p : ℕ → Bool) (n : ℕ) (l : Option ℕ) (b : Bool) → p n ≡ b → Found p n l
+    → Found p (suc n) (or_key l (cond b (Some n) None))
 unfolding Found or_key
 found-next p n None true e f = (omega arith, e, f)
 found-next p n None false e f = λ j l. ⊎_elim (λ (q : j ≡ n). ap p q ∙ e) (λ (m : j < n). f j m) (eq-or-lt_of_le (le_of_suc-le-suc l))

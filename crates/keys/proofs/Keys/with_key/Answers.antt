@@ -18,7 +18,8 @@ returns-then-in_low-2 c =
 pub returns-else-in_low-2 : goal.returns-else-in_low-2
 returns-else-in_low-2 c =
     let a = c.args in
+    let e = c.with_bit-half.ensures in
     elim c.if-in_low.branch [
       | then-in_low w ↦ absurd (omega (arith, w.if-in_low.true, c.if-in_low-2.false))
-      | else-in_low w ↦ high-with-key a.self a.key _ _ a.down c.if-in_low-2.false (omega arith) w.old-is c.with_bit-half.ensures
+      | else-in_low w ↦ high-with-key a.self a.key _ _ a.down c.if-in_low-2.false (omega arith) w.old-is e
     ]
