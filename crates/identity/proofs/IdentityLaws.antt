@@ -39,7 +39,8 @@ unfolding new_of
 old-cases [] = inr (λ h. h, refl)
 old-cases (a ∷ []) = go (leb 1 a) refl (leb a 127) refl
   where
-    go : (p : Bool) → leb 1 a ≡ p → (q : Bool) → leb a 127 ≡ q → (OldForm (a ∷ []) × (new_of (a ∷ []) ≡ Some a)) ⊎ ((OldForm (a ∷ []) → ⊥) × (new_of (a ∷ []) ≡ None))
+    go : (p : Bool) → leb 1 a ≡ p → (q : Bool) → leb a 127 ≡ q
+        → (OldForm (a ∷ []) × (new_of (a ∷ []) ≡ Some a)) ⊎ ((OldForm (a ∷ []) → ⊥) × (new_of (a ∷ []) ≡ None))
     go true e true f = inl ((leb-true 1 a e, leb-true a 127 f), rw (e, f))
     go true e false f = inr (λ h. omega (arith, h.1, leb-false a 127 f), rw (e, f))
     go false e q f = inr (λ h. omega (arith, h.0, leb-false 1 a e), rw e)
@@ -47,7 +48,8 @@ old-cases (a ∷ b ∷ []) = inr (λ h. h, refl)
 old-cases (a ∷ b ∷ c ∷ []) = go (eqb a 0) refl (leb b 127) refl (leb c 127) refl
   where
     go : (p : Bool) → eqb a 0 ≡ p → (q : Bool) → leb b 127 ≡ q → (r : Bool) → leb c 127 ≡ r
-        → (OldForm (a ∷ b ∷ c ∷ []) × (new_of (a ∷ b ∷ c ∷ []) ≡ Some (32768 + b * 256 + c))) ⊎ ((OldForm (a ∷ b ∷ c ∷ []) → ⊥) × (new_of (a ∷ b ∷ c ∷ []) ≡ None))
+        → (OldForm (a ∷ b ∷ c ∷ []) × (new_of (a ∷ b ∷ c ∷ []) ≡ Some (32768 + b * 256 + c)))
+        ⊎ ((OldForm (a ∷ b ∷ c ∷ []) → ⊥) × (new_of (a ∷ b ∷ c ∷ []) ≡ None))
     go true e true f true g = inl ((eqb-true a 0 e, leb-true b 127 f, leb-true c 127 g), rw (e, f, g))
     go true e true f false g = inr (λ h. omega (arith, h.2, leb-false c 127 g), rw (e, f, g))
     go true e false f r g = inr (λ h. omega (arith, h.1, leb-false b 127 f), rw (e, f))
@@ -81,7 +83,8 @@ new-cases : (x : ℕ) → (Without x × (old_of x ≡ None)) ⊎ Has x
 unfolding old_of
 new-cases x = go (leb 32768 x) refl (eqb (x / 128 % 2) 1) refl (leb 1 x) refl (leb x 127) refl
   where
-    go : (o : Bool) → leb 32768 x ≡ o → (p : Bool) → eqb (x / 128 % 2) 1 ≡ p → (q : Bool) → leb 1 x ≡ q → (r : Bool) → leb x 127 ≡ r → (Without x × (old_of x ≡ None)) ⊎ Has x
+    go : (o : Bool) → leb 32768 x ≡ o → (p : Bool) → eqb (x / 128 % 2) 1 ≡ p → (q : Bool) → leb 1 x ≡ q
+        → (r : Bool) → leb x 127 ≡ r → (Without x × (old_of x ≡ None)) ⊎ Has x
     go true d true e q f r g = inl (inr (inr (leb-true 32768 x d, eqb-true (x / 128 % 2) 1 e)), rw (d, e))
     go true d false e q f r g =
         let h = leb-true 32768 x d in
@@ -122,7 +125,9 @@ proved-back = record { old = old; new = new; small = small }
     new : (x : ℕ) (s : List ℕ) → x < 65536 → old_of x ≡ Some s → new_of s ≡ Some x
     new x s m e = go (new-cases x)
       where
-        again : (h : Has x) → (OldForm h.form × (new_of h.form ≡ Some (value h.form))) ⊎ ((OldForm h.form → ⊥) × (new_of h.form ≡ None)) → new_of s ≡ Some x
+        again : (h : Has x)
+            → (OldForm h.form × (new_of h.form ≡ Some (value h.form)))
+            ⊎ ((OldForm h.form → ⊥) × (new_of h.form ≡ None)) → new_of s ≡ Some x
         again h (inl k) = rw (← same_some (sym h.found ∙ e)) (k.1 ∙ ap Some (h.same m))
         again h (inr k) = absurd (k.0 h.listed)
 
