@@ -22,6 +22,7 @@ const GROUPS: u8 = 16;
 // The number of the owner list where a group is no host's.
 const NOBODY: u8 = 0;
 
+// Kept: the same test stands in handover inside `owner_of`, and to share it would take a public function more.
 fn is_host(host: u8) -> bool
     ensures { result ≡ is_host host }
 {

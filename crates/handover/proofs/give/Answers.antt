@@ -1,5 +1,5 @@
--- `handover::give` meets its contract: a group that changes hands stands in the list, and its records are emptied. Assumes
--- nothing.
+-- `handover::give` meets its contract: a group that changes hands stands in the list, and its records are emptied.
+-- Assumes nothing.
 use Rattle.std.proofs.Common.{◌≡◌, sym, true, false, length, ◌∙◌}
 use Rattle.handover.specs.Handover.{changes_hands, owners_after, table_given}
 use Rattle.handover.proofs.HandoverLaws.{changes-inside, table_stays}
@@ -16,7 +16,8 @@ returns-then-not-changes_hands-clause-owners c =
 pub returns-then-not-changes_hands-clause-table : goal.returns-then-not-changes_hands-clause-table
 returns-then-not-changes_hands-clause-table c =
     let a = c.args in
-    sym (table_stays a.owners.now a.table.now a.group a.host (sym c.changes_hands.ensures ∙ c.if-not-changes_hands.true))
+    sym (table_stays a.owners.now a.table.now a.group a.host
+    (sym c.changes_hands.ensures ∙ c.if-not-changes_hands.true))
 
 pub bounds-owners-group : goal.bounds-owners-group
 bounds-owners-group c =

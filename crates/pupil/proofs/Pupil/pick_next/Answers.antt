@@ -1,5 +1,5 @@
--- `pupil::Pupil::pick_next`: a cut packet stops, a MIDI 1.0 voice message is its one word, and any other packet is passed over
--- by its size. Assumes nothing.
+-- `pupil::Pupil::pick_next`: a cut packet stops, a MIDI 1.0 voice message is its one word, and any other packet is
+-- passed over by its size. Assumes nothing.
 use Prim.Native.Nat.{ℕ, ◌-◌, ◌≤◌, ◌<◌}
 use mathlib.Core.Path.{◌≡◌, ap, sym, ◌∙◌}
 use mathlib.Core.List.{List, [], ◌∷◌}
