@@ -1,34 +1,18 @@
--- A line that is put, and each step looks at its own packet alone and goes on only with a whole one. Assumes nothing.
-use Rattle.std.proofs.Common.{◌≡◌, ℕ, ◌-◌, ◌<◌, List, ◌∷◌, length, take, leb, Some, refl, ◌∙◌, arith}
+-- A line that is put, and what is told of a packet has no place. Assumes nothing.
+use Rattle.std.proofs.Common.{◌≡◌, ℕ, ◌-◌, ◌<◌, List, length, leb, Some, ◌∙◌, arith}
 use lib.Seq.{sets-eq}
 use borrow.Author.Tests.{leb-true}
 use Rattle.ground.specs.Store.{written}
 use Rattle.ground.proofs.Cases.{by_bool}
-use Rattle.ump.specs.Packet.{size}
-use Rattle.ump.proofs.PacketLaws.{packet-near}
 use Rattle.stream.specs.Answers.{sent}
-use Rattle.stream.specs.Call.{fit, sent_of, went}
-use Rattle.stream.proofs.RunLoop.{Inside, packet-inside}
+use Rattle.std.proofs.Common.{◌+◌, eqb}
+use Rattle.stream.specs.declared.Done.{Done}
+use Rattle.stream.specs.Call.{answer_of, fit, read_of, sent_of, went}
+use Rattle.stream.specs.Report.{counting, further}
 use Rattle.text.specs.Lines.{with_row}
 use Rattle.recording.specs.declared.Past.{Past}
-use Rattle.recording.specs.Recording.{kept_of, line_of, past_after, place_if_put, text_of}
-use Rattle.rescuing.specs.Rescue.{keep, rowed, tell}
-
-pub keep-near : (t : Unit {0}) (w : ℕ) (s : List ℕ) → keep t (take (size w) (w ∷ s)) ≡ keep t (w ∷ s)
-unfolding keep
-keep-near t w s = rw (packet-near w s)
-
-pub keep-inside : (t : Unit {0}) (w : ℕ) (s : List ℕ) → Inside (w ∷ s) (keep t (w ∷ s))
-unfolding keep
-keep-inside t w s = packet-inside (λ p. rowed p (kept_of p) tt) refl w s
-
-pub tell-near : (t : Past) (w : ℕ) (s : List ℕ) → tell t (take (size w) (w ∷ s)) ≡ tell t (w ∷ s)
-unfolding tell
-tell-near t w s = rw (packet-near w s)
-
-pub tell-inside : (t : Past) (w : ℕ) (s : List ℕ) → Inside (w ∷ s) (tell t (w ∷ s))
-unfolding tell
-tell-inside t w s = packet-inside (λ p. rowed p (text_of (line_of t p)) (past_after t p)) refl w s
+use Rattle.recording.specs.Recording.{place_if_put}
+use Rattle.rescuing.specs.Rescue.{rowed}
 
 -- a row that has bytes was stored where there is a place after it
 pub said-put : (text after row : List ℕ) (to end : ℕ) (u : Past) → 0 < length row → Some end ≡ place_if_put text to row
@@ -39,3 +23,11 @@ said-put text after row to end u some q w =
     (λ e. let h = leb-true (length row) (length text - to) e in
     rw e (rw e at w ∙ sets-eq row text to (omega (arith, some, h))))
     (λ e. let z = rw e at q in cc)
+
+-- what is told of a packet of a rescue has no place, since no answer of its is that of bad data
+pub no_place : {T : Type 0} (d : Done) (p q row : List ℕ) (room : ℕ) (u : T)
+    → further d q (fit room (rowed p row u))
+    ≡ counting (answer_of (fit room (rowed p row u))) (d.read + read_of q (fit room (rowed p row u)))
+    (d.written + length (sent_of (fit room (rowed p row u))))
+no_place d p q row room u = by_bool (eqb (length p) 0) (λ e. rw e)
+    (λ e. by_bool (leb (length row) room) (λ f. rw (e, f)) (λ f. rw (e, f)))

@@ -1,1 +1,2 @@
 pub mod Rescue
+pub mod Kept

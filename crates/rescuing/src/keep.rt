@@ -5,11 +5,12 @@ ghost use Rattle.ump.specs.Packet.{packet};
 ghost use Rattle.stream.specs.Call.{sent_of, within};
 ghost use Rattle.stream.specs.Report.{further, reported};
 ghost use Rattle.rescuing.specs.Rescue.{handed, run_keep};
+ghost use Rattle.rescuing.specs.Kept.{keeping, keeping-own};
 ghost use Rattle.rescuing.specs.Rescue;
 
 use reader::packets_from;
 use recording::is_kept;
-use stream::{CUT, Done, NO_ROOM, SENT, report};
+use stream::{CUT, Calls, Done, NO_ROOM, SENT, report, run_calls};
 
 // Hands a packet on, if there is room for it.
 fn keep(row: &[u32], past: Done, out: &mut [u32]) -> Done
@@ -49,21 +50,29 @@ fn keep_next(words: &[u32], past: Done, out: &mut [u32]) -> Done
     }
 }
 
+// What keeps packets has nothing to remember.
+#[derive(Clone, Copy)]
+pub(crate) struct Keeping;
+
+impl Calls for Keeping {
+    type Written = u32;
+
+    ghost numbers = { λ words. words };
+
+    ghost step = { keeping };
+
+    fn call(&mut self, words: &[u32], past: Done, out: &mut [u32]) -> Done {
+        keep_next(words, past, out)
+    }
+
+    ghost own_packet = { keeping-own };
+}
+
 // The packets of the words that are kept, out of the words into the output.
 pub fn keep_some(words: &[u32], out: &mut [u32]) -> Done
     ensures report { result ≡ reported (run_keep (length out.old) words.now) }
     ensures output { out.new
         ≡ at_start (run_keep (length out.old) words.now).sends out.old }
 {
-    let mut read: usize = 0;
-    let mut written: usize = 0;
-    while read < words.len() {
-        let done = keep_next(words, report(SENT, read, written), out);
-        if done.read == read {
-            return report(done.answer, read, done.written);
-        }
-        read = done.read;
-        written = done.written;
-    }
-    report(SENT, read, written)
+    run_calls(&mut Keeping, words, out)
 }

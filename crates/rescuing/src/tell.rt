@@ -7,12 +7,13 @@ ghost use Rattle.stream.specs.Call.{sent_of, within};
 ghost use Rattle.stream.specs.Report.{counting, reported};
 ghost use Rattle.text.specs.Lines.{place_after, with_row};
 ghost use Rattle.recording.specs.Recording.{cut_line, left_line, past_after, text_of};
+ghost use Rattle.rescuing.specs.Kept.{telling, telling-own};
 ghost use Rattle.rescuing.specs.Rescue.{run_tell, said, tell, turn_of};
 
 use crate::Told;
 use reader::packets_from;
 use recording::{Line, Past};
-use stream::{CUT, Done, NO_ROOM, SENT, report};
+use stream::{CUT, Calls, Done, NO_ROOM, SENT, report, run_calls};
 
 // Nothing happens, by an answer that stops the run.
 fn stays(told: Told, answer: u32) -> Told
@@ -76,6 +77,32 @@ fn tell_next(words: &[u32], told: Told, text: &mut [u8]) -> Told
     }
 }
 
+// What went before the next packet.
+#[derive(Clone, Copy)]
+pub(crate) struct Telling {
+    past: Past,
+}
+
+impl Calls for Telling {
+    type Written = u8;
+
+    ghost numbers = { λ text. text };
+
+    ghost step = { telling };
+
+    fn call(&mut self, words: &[u32], past: Done, text: &mut [u8]) -> Done {
+        let before = Told {
+            past: self.past,
+            done: past,
+        };
+        let told = tell_next(words, before, text);
+        self.past = told.past;
+        told.done
+    }
+
+    ghost own_packet = { telling-own };
+}
+
 // What is said of the packets of the words, after what went before them, until one stops the run.
 pub fn tell_some(past: Past, words: &[u32], text: &mut [u8]) -> Told
     ensures report { result.done ≡ reported (run_tell (length text.old) past words.now) }
@@ -83,26 +110,12 @@ pub fn tell_some(past: Past, words: &[u32], text: &mut [u8]) -> Told
     ensures text { text.new
         ≡ at_start (run_tell (length text.old) past words.now).sends text.old }
 {
-    let mut past = past;
-    let mut read: usize = 0;
-    let mut written: usize = 0;
-    while read < words.len() {
-        let before = Told {
-            past,
-            done: report(SENT, read, written),
-        };
-        let told = tell_next(words, before, text);
-        let done = told.done;
-        past = told.past;
-        if done.read == read {
-            let done = report(done.answer, read, done.written);
-            return Told { past, done };
-        }
-        read = done.read;
-        written = done.written;
+    let mut telling = Telling { past };
+    let done = run_calls(&mut telling, words, text);
+    Told {
+        past: telling.past,
+        done,
     }
-    let done = report(SENT, read, written);
-    Told { past, done }
 }
 
 // Writes what is said from a place on and answers the place after it, or that place where nothing is said or it

@@ -1,38 +1,20 @@
--- `rescuing::keep::keep_some`: a call that stops ends the run, and any other goes on with it.
-use mathlib.Core.Path.{◌∙◌}
-use Rattle.stream.proofs.RunLoop.{finish, reports}
-use Rattle.stream.proofs.Stateless.{one_more}
+-- `rescuing::keep::keep_some` is the run of the calls that keep.
+use Rattle.std.proofs.Common.{◌∙◌, ap, length, refl}
+use Rattle.ground.specs.Store.{at_start}
+use Rattle.stream.specs.Report.{reported}
+use Rattle.stream.proofs.SeenLaws.{whole-seen}
+use Rattle.rescuing.specs.declared.keep.Keeping.{Keeping}
+use Rattle.rescuing.specs.Kept.{keeping}
 use Rattle.rescuing.specs.Rescue.{keep}
-use Rattle.rescuing.proofs.RowLaws.{keep-inside, keep-near}
 use Rattle.rescuing.proofs.keep.keep_some.Goals as goal
-
-pub returns-then-done-read : goal.returns-then-done-read
-returns-then-done-read c =
-    let a = c.args in
-    let l = c.loop-read in
-    let e = rw c.report.ensures at c.keep_next-done.ensures in
-    let z = (one_more keep keep-near keep-inside a.words.now a.out.now l.out l.read l.written l.invariant
-    c.loop-read-test.true _ _ e.report e.output).1 c.if-done-read.true in
-    record {
-      report = c.report-then-done-read.ensures ∙ rw c.if-done-read.true at (reports z);
-      output = z.holds;
-    }
-
-pub loop-read-preserved : goal.loop-read-preserved
-loop-read-preserved c =
-    let a = c.args in
-    let l = c.loop-read in
-    let e = rw c.report.ensures at c.keep_next-done.ensures in
-    ((one_more keep keep-near keep-inside a.words.now a.out.now l.out l.read l.written l.invariant
-    c.loop-read-test.true _ _ e.report e.output).0 c.if-done-read.false).0
 
 pub returns : goal.returns
 returns c =
     let a = c.args in
-    let l = c.loop-read in
-    let z = finish keep keep-near keep-inside tt a.words.now a.out.now tt l.out l.read l.written l.invariant
-    c.loop-read-test.false in
+    let r = c.run_calls.ensures in
+    let x : Keeping = record {} in
+    let e = whole-seen (λ _. x) keep keeping (λ t s. refl) a.words.now (length a.out.now) tt in
     record {
-      report = c.report-2.ensures ∙ reports z;
-      output = z.holds;
+      report = r.report ∙ ap reported e;
+      output = r.output ∙ ap (λ q. at_start q.sends a.out.now) e;
     }
