@@ -127,7 +127,8 @@ fields-more k l ws to i h =
 
 -- the same where the code counts
 pub field_more : (k : ℕ) (l ws : List ℕ) (to i at w : ℕ) → i < length ws → at ≡ to + (k + 1) * i → w ≡ get_or ws i 0
-    → sets (set (sets l to (fields_of k (take i ws))) at 32) (at + 1) (digits 16 k w) ≡ sets l to (fields_of k (take (i + 1) ws))
+    → sets (set (sets l to (fields_of k (take i ws))) at 32) (at + 1) (digits 16 k w)
+    ≡ sets l to (fields_of k (take (i + 1) ws))
 field_more k l ws to i at w h e f = rw (e, f, add-one k) (fields-more k l ws to i h)
 
 pub room_more : (k i n : ℕ) → i < n → (k + 1) * i + (k + 1) ≤ (k + 1) * n

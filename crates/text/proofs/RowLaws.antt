@@ -42,7 +42,8 @@ pub made_longer : (l xs s : List ℕ) (n : ℕ) → take n l ≡ s → n ≤ len
 made_longer l xs s n e h f =
     let k : length s ≡ n = ap length (sym e) ∙ length-take-le n l h in
     let m : length (s ++ xs) ≡ n + length xs = omega (arith, length-append s xs, k) in
-    rw (sets-eq xs l n (omega arith), e, take-append-le (n + length xs) (s ++ xs) (drop (n + length xs) l) (omega (arith, m)))
+    let p = take-append-le (n + length xs) (s ++ xs) (drop (n + length xs) l) (omega (arith, m)) in
+    rw (sets-eq xs l n (omega arith), e, p)
     (take_all (n + length xs) (s ++ xs) (omega (arith, m)))
 
 -- a head, fields and the end of the line, one after the other
@@ -53,5 +54,6 @@ pub whole_stored : (l head fields : List ℕ) (to : ℕ)
     → set (sets (sets l to head) (to + length head) fields) (to + length head + length fields) 10
     ≡ sets l to (head ++ fields ++ (10 ∷ []))
 whole_stored l head fields to =
-    let e : to + length (head ++ fields) ≡ to + length head + length fields = omega (arith, length-append head fields) in
+    let e : to + length (head ++ fields) ≡ to + length head + length fields =
+    omega (arith, length-append head fields) in
     rw (sets-append l to (head ++ fields) (10 ∷ []), e, sets-append l to head fields)

@@ -15,6 +15,6 @@ pub returns-clause-read : goal.returns-clause-read
 returns-clause-read c =
     let a = c.args in
     let u = c.only-done in
-    let z = only-bounds a.self.group a.self.channel (length a.sent.now) a.words.now a.sent.now u.new.out u.result u.auto.out
-    u.ensures.report u.ensures.output in
+    let z = only-bounds a.self.group a.self.channel (length a.sent.now) a.words.now a.sent.now u.new.out u.result
+    u.auto.out u.ensures.report u.ensures.output in
     omega (arith, c.sent_as_bytes.ensures.read, z.0)

@@ -15,8 +15,8 @@ pub returns-then-digits-saturating_sub : goal.returns-then-digits-saturating_sub
 returns-then-digits-saturating_sub c =
     let a = c.args in
     let k = c.places-digits.ensures.count in
-    let r = put_there a.out.now a.to (decimal a.n) _ (k ∙ sym (digits-length 10 (places a.n) a.n)) (omega arith) _ _ refl
-    (rw k at c.spell.ensures) in
+    let r = put_there a.out.now a.to (decimal a.n) _ (k ∙ sym (digits-length 10 (places a.n) a.n)) (omega arith) _ _
+    refl (rw k at c.spell.ensures) in
     record {
       place = r.0;
       text = r.1;
