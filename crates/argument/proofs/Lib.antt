@@ -1,2 +1,2 @@
 pub mod ByteLaws
-mod UnitLaws
+pub mod UnitLaws

@@ -8,9 +8,8 @@
 
 mod units;
 
-ghost use Rattle.std.specs.Prelude.{◌≡◌, ◌+◌, ◌*◌, ◌-◌, ◌<◌, ◌≤◌, ◌&&◌, get_or, length};
-ghost use Rattle.argument.specs.Argument.{channel_named, is_digit, number_if, number_in};
-ghost use Rattle.argument.specs.Argument;
+ghost use Rattle.std.specs.Prelude.{◌≡◌, ◌-◌, ◌<◌, ◌≤◌, length};
+ghost use Rattle.argument.specs.Argument.{channel_named, is_digit, number_in, parted, three_digits};
 
 pub use units::units_in;
 
@@ -21,21 +20,7 @@ const ZERO: u8 = b'0';
 const NINE: u8 = b'9';
 
 // The most that a group or a channel may be.
-const MOST: u32 = 15;
-
-// What an argument names: a channel, by its group and its own number, or nothing.
-#[derive(Clone, Copy)]
-pub enum Named {
-    Nothing,
-    Channel(u8, u8),
-}
-
-// A group or a channel, where there is one.
-#[derive(Clone, Copy)]
-pub enum Number {
-    None,
-    Is(u8),
-}
+const MOST: u8 = 15;
 
 fn is_digit(b: u8) -> bool
     ensures { result ≡ is_digit b }
@@ -48,86 +33,51 @@ fn value(b: u8) -> u32
     ensures from_zero { result ≡ b - 48 }
     ensures few { result ≤ 207 }
 {
-    if b < ZERO { 0 } else { (b - ZERO) as u32 }
+    u32::from(b.saturating_sub(ZERO))
 }
 
-fn number_if(digits: bool, n: u32) -> Number
-    ensures { result ≡ number_if digits n }
+// The number that three digits write, where it is not above the most that it may be.
+fn three_digits(most: u8, a: u8, b: u8, c: u8) -> Option<u8>
+    ensures { result ≡ three_digits most a b c }
 {
-    if digits {
-        if n <= MOST {
-            Number::Is(n as u8)
-        } else {
-            Number::None
-        }
+    let digits = is_digit(a) & is_digit(b) & is_digit(c);
+    let n = value(a) * 100 + value(b) * 10 + value(c);
+    if digits & (n <= u32::from(most)) {
+        Some(n as u8)
     } else {
-        Number::None
+        None
     }
-}
-
-fn one_digit(a: u8) -> Number
-    ensures { result ≡ number_if (is_digit a) (a - 48) }
-{
-    number_if(is_digit(a), value(a))
-}
-
-fn two_digits(a: u8, b: u8) -> Number
-    ensures { result ≡ number_if (is_digit a && is_digit b) ((a - 48) * 10 + (b - 48)) }
-{
-    number_if(is_digit(a) & is_digit(b), value(a) * 10 + value(b))
 }
 
 // The group or the channel that an argument names.
-pub fn number_in(text: &[u8]) -> Number
+#[tactic(auto, using(crate::proofs::ByteLaws::one_byte, crate::proofs::ByteLaws::two_bytes, crate::proofs::ByteLaws::no_byte, crate::proofs::ByteLaws::more_bytes))]
+pub fn number_in(text: &[u8]) -> Option<u8>
     ensures { result ≡ number_in text.now }
 {
-    if text.len() == 1 {
-        return one_digit(text[0]);
-    }
-    if text.len() == 2 {
-        return two_digits(text[0], text[1]);
-    }
-    Number::None
-}
-
-fn both(group: Number, channel: Number) -> Named
-    ensures { result ≡ Argument.both group channel }
-{
-    match group {
-        Number::None => Named::Nothing,
-        Number::Is(g) => match channel {
-            Number::None => Named::Nothing,
-            Number::Is(c) => Named::Channel(g, c),
-        },
+    match text {
+        [a] => three_digits(MOST, ZERO, ZERO, *a),
+        [a, b] => three_digits(MOST, ZERO, *a, *b),
+        _ => None,
     }
 }
 
 // The group before a place, and the channel after it.
-fn parted(at: usize, text: &[u8]) -> Named
+#[tactic(auto, unfolding(crate::specs::Argument::both))]
+fn parted(at: usize, text: &[u8]) -> Option<(u8, u8)>
     requires { at < length text.now }
-    ensures { result ≡ Argument.parted at text.now }
+    ensures { result ≡ parted at text.now }
 {
-    let group = number_in(&text[..at]);
-    let channel = number_in(&text[at + 1..]);
-    both(group, channel)
+    number_in(&text[..at]).zip(number_in(&text[at + 1..]))
 }
 
-// The byte at a place, and 0 past the end.
-fn byte_at(text: &[u8], at: usize) -> u8
-    ensures { result ≡ get_or text.now at 0 }
-{
-    if at < text.len() { text[at] } else { 0 }
-}
-
-// The channel that an argument names.
-pub fn channel_named(text: &[u8]) -> Named
+// The channel that an argument names, by its group and its own number.
+#[tactic(auto, unfolding(crate::specs::Argument::channel_named))]
+pub fn channel_named(text: &[u8]) -> Option<(u8, u8)>
     ensures { result ≡ channel_named text.now }
 {
-    if byte_at(text, 1) == COLON {
-        return parted(1, text);
+    match text {
+        [_, COLON, ..] => parted(1, text),
+        [_, _, COLON, ..] => parted(2, text),
+        _ => None,
     }
-    if byte_at(text, 2) == COLON {
-        return parted(2, text);
-    }
-    Named::Nothing
 }

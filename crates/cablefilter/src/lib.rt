@@ -6,12 +6,14 @@
 // Here no contract can say what is read or written, so these functions are proved to be safe and to end.
 #![tactic(auto)]
 
+ghost use Rattle.std.specs.Prelude.{◌≤◌, length, IfOk};
+
 use cable::{Cable, EXCLUSIVE};
 use exchange::{Side, pass_through};
-use notice::Ending;
+use notice::{Amount, Ending};
 pub use ports::Streams;
+use ports::{Failed, Turn, Turns};
 use program::Totals;
-use start::ChosenGroup;
 use std::env::Env;
 use std::io::{Read, Write};
 use stream::NO_ROOM;
@@ -25,134 +27,115 @@ const WORDS: usize = 0x4000;
 // Four bytes for each word that comes from a cable. For a cable no word becomes more.
 const OUTPUT_BYTES: usize = 0x10000;
 
-// What goes on from one turn to the next. The bytes that are left stand at the front of the input.
-// Where some of them wait for room in the output, they come before more is read.
+// What goes on from one turn to the next, and the buffers of a turn.
 #[derive(Drop)]
-struct SocketState {
-    cable: Cable,
-    totals: Totals,
-    left: usize,
-    waits: bool,
-    ended: bool,
-    failed: bool,
-}
-
-// Reads once, takes what came through the socket, writes what it comes to and keeps the bytes that are
-// left.
-fn turn<R: Read, W: Write, E: Write>(
-    streams: &mut Streams<R, W, E>,
+struct Socket {
     side: Side,
     group: u8,
-    s: SocketState,
-    bytes: &mut [u8],
-    words: &mut [u32],
-    text: &mut [u8],
-) -> SocketState {
-    let got = streams.read_more(b"standard input", bytes, s.left, s.waits);
-    let have = got.have;
-    let cable = s.cable;
-    let totals = s.totals;
-    let done = pass_through(side, group, cable, totals, &bytes[..have], words, text);
-    let failed = streams.write_fails(b"standard output", text, done.bytes);
-    let left = wire::carry(bytes, done.read, have);
-    let cable = done.cable;
-    let totals = done.totals.if_written(failed, totals);
-    SocketState {
-        cable,
-        totals,
-        left,
-        waits: done.answer == NO_ROOM,
-        ended: got.ended,
-        failed: got.failed | failed,
-    }
+    cable: Cable,
+    totals: Totals,
+    words: [u32; WORDS],
+    text: [u8; OUTPUT_BYTES],
 }
 
-// All turns, and none where an argument is wrong. As in every program, they are counted down from a
-// number that no input uses up.
-fn turns<R: Read, W: Write, E: Write>(
-    streams: &mut Streams<R, W, E>,
-    side: Side,
-    chosen: ChosenGroup,
-) -> SocketState {
-    let mut bytes = [0u8; INPUT_BYTES];
-    let mut words = [0u32; WORDS];
-    let mut text = [0u8; OUTPUT_BYTES];
-    let cable = cable::idle();
-    let totals = Totals::zero();
-    let mut s = SocketState {
-        cable,
-        totals,
-        left: 0,
-        waits: false,
-        ended: false,
-        failed: chosen.wrong,
-    };
-    let mut more = u64::MAX;
-    while more > 0 && !(s.ended | s.failed) {
-        s = turn(
-            streams,
-            side,
-            chosen.group,
-            s,
-            &mut bytes,
-            &mut words,
-            &mut text,
+impl<R: Read, W: Write, E: Write> Turns<R, W, E> for Socket {
+    // Takes what came through the socket. What it came to counts where it could be written.
+    fn turn(&mut self, streams: &mut Streams<R, W, E>, bytes: &[u8]) -> Result<Turn, Failed>
+        ensures { IfOk result (λ turn. turn.read ≤ length bytes.now) }
+    {
+        let done = pass_through(
+            self.side,
+            self.group,
+            self.cable,
+            self.totals,
+            bytes,
+            &mut self.words,
+            &mut self.text,
         );
-        more -= 1;
-    }
-    s
-}
-
-// What is open on the cable once its bytes have ended.
-fn cable_ending(s: SocketState) -> Ending {
-    let cable = s.cable;
-    if !s.ended | (cable.status == 0) {
-        return Ending::Whole;
-    }
-    if cable.status == EXCLUSIVE {
-        Ending::OpenExclusive
-    } else {
-        Ending::OpenMessage
+        self.cable = done.cable;
+        streams.write(b"standard output", &self.text, done.bytes)?;
+        self.totals = done.totals;
+        Ok(Turn {
+            read: done.read,
+            waits: done.answer == NO_ROOM,
+        })
     }
 }
 
-// Whether the packets ended within one.
-fn packet_ending(s: SocketState) -> Ending {
-    if s.ended & (0 < s.left) {
-        Ending::CutPacket
-    } else {
-        Ending::Whole
+impl Socket {
+    fn new(side: Side, group: u8) -> Socket {
+        Socket {
+            side,
+            group,
+            cable: cable::idle(),
+            totals: Totals::zero(),
+            words: [0; WORDS],
+            text: [0; OUTPUT_BYTES],
+        }
+    }
+
+    // All turns: answers how many bytes are left at the end of the input.
+    fn run<R: Read, W: Write, E: Write>(
+        &mut self,
+        streams: &mut Streams<R, W, E>,
+    ) -> Result<usize, Failed> {
+        let mut bytes = [0u8; INPUT_BYTES];
+        streams.run(b"standard input", &mut bytes, 0, self)
+    }
+
+    // Says how much was read and written, what was refused and how the input ended.
+    fn say<E: Write>(
+        &self,
+        errors: &mut E,
+        name: &[u8],
+        read: &[u8],
+        written: &[u8],
+        ending: Ending,
+    ) {
+        let totals = &self.totals;
+        let read = Amount {
+            number: totals.read,
+            word: read,
+        };
+        let written = Amount {
+            number: totals.written,
+            word: written,
+        };
+        notice::say_end(errors, name, read, Some(written), &totals.counts, ending);
+    }
+}
+
+// What is open on a cable once its bytes have ended.
+fn cable_ending(cable: Cable) -> Ending {
+    match cable.status {
+        0 => Ending::Whole,
+        EXCLUSIVE => Ending::OpenExclusive,
+        _ => Ending::OpenMessage,
     }
 }
 
 // The bytes of a cable on standard input become packets of the group that the argument names.
 pub fn import<V: Env, R: Read, W: Write, E: Write>(env: &V, streams: &mut Streams<R, W, E>) {
-    let chosen = start::group_chosen(env, &mut streams.errors, b"import");
-    let s = turns(streams, Side::Import, chosen);
-    let totals = s.totals;
-    let counts = totals.counts;
-    notice::say_import(
-        &mut streams.errors,
-        b"import",
-        totals.read,
-        totals.written,
-        counts,
-        cable_ending(s),
-    );
+    let Ok(group) = start::group_chosen(env, &mut streams.errors, b"import") else {
+        return;
+    };
+    let mut socket = Socket::new(Side::Import, group);
+    let ending = match socket.run(streams) {
+        Ok(_) => cable_ending(socket.cable),
+        Err(_) => Ending::Whole,
+    };
+    socket.say(&mut streams.errors, b"import", b" bytes", b" words", ending);
 }
 
 // The packets of standard input that are of the group become bytes for a cable.
 pub fn export<V: Env, R: Read, W: Write, E: Write>(env: &V, streams: &mut Streams<R, W, E>) {
-    let chosen = start::group_chosen(env, &mut streams.errors, b"export");
-    let s = turns(streams, Side::Export, chosen);
-    let totals = s.totals;
-    let counts = totals.counts;
-    notice::say_export(
-        &mut streams.errors,
-        b"export",
-        totals.read,
-        totals.written,
-        counts,
-        packet_ending(s),
-    );
+    let Ok(group) = start::group_chosen(env, &mut streams.errors, b"export") else {
+        return;
+    };
+    let mut socket = Socket::new(Side::Export, group);
+    let ending = match socket.run(streams) {
+        Ok(1..) => Ending::CutPacket,
+        _ => Ending::Whole,
+    };
+    socket.say(&mut streams.errors, b"export", b" words", b" bytes", ending);
 }

@@ -7,14 +7,13 @@
 // these functions are proved to be safe and to end.
 #![tactic(auto)]
 
-ghost use Rattle.std.specs.Prelude.{◌≡◌, ◌≤◌, length};
+ghost use Rattle.std.specs.Prelude.{◌≤◌, length, IfOk};
 
 use flow::{PANEL_BYTES, Table};
-use notice::Ending;
-use ports::Intake;
+use notice::{Amount, Ending};
 pub use ports::Streams;
+use ports::{Failed, Turn, Turns};
 use program::{Down, Lines, Only, Panel, Program, Totals, Up};
-use start::{Start, Takes};
 use std::env::Env;
 use std::io::{Read, Write};
 use stream::NO_ROOM;
@@ -29,182 +28,179 @@ const OUTPUT_WORDS: usize = 0x4000;
 
 const OUTPUT_BYTES: usize = 0x10000;
 
-// What goes on from one turn to the next. The bytes that are left stand at the front of the input.
-// Where packets among them wait for room in the output, they come before more is read.
+// What goes on from one turn to the next, and the buffers of a turn: the words of the input, those sent, and
+// the bytes to write.
 #[derive(Drop)]
-struct FilterState {
+struct Filter<P> {
+    program: P,
     table: Table,
     totals: Totals,
-    left: usize,
-    waits: bool,
-    ended: bool,
-    failed: bool,
+    words: [u32; INPUT_WORDS],
+    sent: [u32; OUTPUT_WORDS],
+    text: [u8; OUTPUT_BYTES],
 }
 
-// Reads standard input after the bytes that are left, unless packets among them wait.
-fn read_more<R: Read, W: Write, E: Write>(
-    streams: &mut Streams<R, W, E>,
-    bytes: &mut [u8],
-    left: usize,
-    waits: bool,
-) -> Intake
-    ensures { result.have ≤ length bytes.new }
-{
-    streams.read_more(b"standard input", bytes, left, waits)
-}
-
-// Whether the first bytes of the text could not all be written.
-fn write_fails<R: Read, W: Write, E: Write>(
-    streams: &mut Streams<R, W, E>,
-    text: &[u8],
-    n: usize,
-) -> bool {
-    streams.write_fails(b"standard output", text, n)
-}
-
-// Reads once, translates the whole packets, writes what they come to and keeps the bytes that are left.
-fn turn<P: Program, R: Read, W: Write, E: Write>(
-    streams: &mut Streams<R, W, E>,
-    program: P,
-    s: FilterState,
-    bytes: &mut [u8],
-    words: &mut [u32],
-    sent: &mut [u32],
-    text: &mut [u8],
-) -> FilterState {
-    let got = read_more(streams, bytes, s.left, s.waits);
-    let have = got.have;
-    let n = wire::words_of(&bytes[..have], words);
-    let table = s.table;
-    let totals = s.totals;
-    let translated = program.translate(table, totals, &words[..n], sent, text);
-    let failed = write_fails(streams, text, translated.bytes);
-    let left = wire::carry(bytes, 4 * translated.read, have);
-    let table = translated.table;
-    let totals = translated.totals.if_written(failed, totals);
-    FilterState {
-        table,
-        totals,
-        left,
-        waits: translated.answer == NO_ROOM,
-        ended: got.ended,
-        failed: got.failed | failed,
-    }
-}
-
-// All turns, and none where an argument is wrong. A proved loop has to end, and nothing says that the
-// input does: the turns are counted down from a number that no input uses up.
-fn turns<P: Program, R: Read, W: Write, E: Write>(
-    streams: &mut Streams<R, W, E>,
-    program: P,
-    start: Start,
-) -> FilterState {
-    let mut bytes = [0u8; INPUT_BYTES];
-    let mut words = [0u32; INPUT_WORDS];
-    let mut sent = [0u32; OUTPUT_WORDS];
-    let mut text = [0u8; OUTPUT_BYTES];
-    let table = start.table;
-    let totals = Totals::zero();
-    let mut s = FilterState {
-        table,
-        totals,
-        left: 0,
-        waits: false,
-        ended: false,
-        failed: start.wrong,
-    };
-    let mut more = u64::MAX;
-    while more > 0 && !(s.ended | s.failed) {
-        s = turn(
-            streams, program, s, &mut bytes, &mut words, &mut sent, &mut text,
+impl<P: Program + Drop, R: Read, W: Write, E: Write> Turns<R, W, E> for Filter<P> {
+    // Translates the whole packets. What they came to counts where it could be written.
+    fn turn(&mut self, streams: &mut Streams<R, W, E>, bytes: &[u8]) -> Result<Turn, Failed>
+        ensures { IfOk result (λ turn. turn.read ≤ length bytes.now) }
+    {
+        let n = wire::words_of(bytes, &mut self.words);
+        let done = self.program.translate(
+            self.table,
+            self.totals,
+            &self.words[..n],
+            &mut self.sent,
+            &mut self.text,
         );
-        more -= 1;
+        self.table = done.table;
+        streams.write(b"standard output", &self.text, done.bytes)?;
+        self.totals = done.totals;
+        Ok(Turn {
+            read: 4 * done.read,
+            waits: done.answer == NO_ROOM,
+        })
     }
-    s
 }
 
-// Whether the input ended within a packet.
-fn is_cut(s: &FilterState) -> bool {
-    s.ended & (0 < s.left)
+impl<P: Program + Drop> Filter<P> {
+    fn new(program: P, table: Table) -> Filter<P> {
+        Filter {
+            program,
+            table,
+            totals: Totals::zero(),
+            words: [0; INPUT_WORDS],
+            sent: [0; OUTPUT_WORDS],
+            text: [0; OUTPUT_BYTES],
+        }
+    }
+
+    // All turns: answers how many bytes are left at the end of the input, which are a packet that is cut.
+    fn run<R: Read, W: Write, E: Write>(
+        &mut self,
+        streams: &mut Streams<R, W, E>,
+    ) -> Result<usize, Failed> {
+        let mut bytes = [0u8; INPUT_BYTES];
+        streams.run(b"standard input", &mut bytes, 0, self)
+    }
+
+    // Says how much was read and written, what was refused and whether the input ended within a packet.
+    fn say<E: Write>(&self, errors: &mut E, name: &[u8], left: Result<usize, Failed>) {
+        let totals = &self.totals;
+        let read = Amount {
+            number: totals.read,
+            word: b" words",
+        };
+        let written = Amount {
+            number: totals.written,
+            word: b"",
+        };
+        notice::say_end(
+            errors,
+            name,
+            read,
+            Some(written),
+            &totals.counts,
+            ending(left),
+        );
+    }
 }
 
-fn ending(s: &FilterState) -> Ending {
-    if is_cut(s) {
+fn is_cut(left: Result<usize, Failed>) -> bool {
+    matches!(left, Ok(1..))
+}
+
+// How the input ended, where it could be read to its end.
+fn ending(left: Result<usize, Failed>) -> Ending {
+    if is_cut(left) {
         Ending::CutPacket
     } else {
         Ending::Whole
     }
 }
 
-fn say_filter<E: Write>(errors: &mut E, name: &[u8], s: &FilterState) {
-    let totals = &s.totals;
-    notice::say_filter(
-        errors,
-        name,
-        totals.read,
-        totals.written,
-        totals.counts,
-        ending(s),
-    );
+// Translates from a table on, and says under the program's name what was refused.
+fn run_and_say<P: Program + Drop, R: Read, W: Write, E: Write>(
+    streams: &mut Streams<R, W, E>,
+    name: &[u8],
+    program: P,
+    table: Table,
+) {
+    let mut filter = Filter::new(program, table);
+    let left = filter.run(streams);
+    filter.say(&mut streams.errors, name, left);
+}
+
+fn fresh() -> Table {
+    Table {
+        records: channel::fresh_table(),
+    }
 }
 
 // A line for each packet of standard input going up, and a last one for a cut packet.
 pub fn listing<V: Env, R: Read, W: Write, E: Write>(env: &V, streams: &mut Streams<R, W, E>) {
-    let start = start::taken(env, &mut streams.errors, b"listing", Takes::Channels);
-    let s = turns(streams, Lines, start);
-    if is_cut(&s) {
-        write_fails(streams, b"3 0\n", 4);
+    let Ok(table) = start::taken(env, &mut streams.errors, b"listing") else {
+        return;
+    };
+    if is_cut(Filter::new(Lines, table).run(streams)) {
+        let _ = streams.write(b"standard output", b"3 0\n", 4);
     }
 }
 
 // The packets of standard input up.
 pub fn up<V: Env, R: Read, W: Write, E: Write>(env: &V, streams: &mut Streams<R, W, E>) {
-    let start = start::taken(env, &mut streams.errors, b"up", Takes::Channels);
-    let s = turns(streams, Up, start);
-    say_filter(&mut streams.errors, b"up", &s);
+    if let Ok(table) = start::taken(env, &mut streams.errors, b"up") {
+        run_and_say(streams, b"up", Up, table);
+    }
 }
 
 // The packets of standard input down, where no channel is marked: any argument is wrong.
 pub fn down<V: Env, R: Read, W: Write, E: Write>(env: &V, streams: &mut Streams<R, W, E>) {
-    let start = start::taken(env, &mut streams.errors, b"down", Takes::Nothing);
-    let s = turns(streams, Down, start);
-    say_filter(&mut streams.errors, b"down", &s);
+    if start::nothing_taken(env, &mut streams.errors, b"down").is_ok() {
+        run_and_say(streams, b"down", Down, fresh());
+    }
 }
 
 // The packets of standard input that are one channel's, which the two arguments name.
 pub fn only<V: Env, R: Read, W: Write, E: Write>(env: &V, streams: &mut Streams<R, W, E>) {
-    let chosen = start::channel_chosen(env, &mut streams.errors, b"only");
-    let start = chosen.start;
-    let only = Only {
-        group: chosen.group,
-        channel: chosen.channel,
-    };
-    let s = turns(streams, only, start);
-    say_filter(&mut streams.errors, b"only", &s);
+    if let Ok(chosen) = start::channel_chosen(env, &mut streams.errors, b"only") {
+        let program = Only {
+            group: chosen.group,
+            channel: chosen.channel,
+        };
+        run_and_say(streams, b"only", program, fresh());
+    }
 }
 
 // Writes the lines of the channels that have keys down.
 fn show<R: Read, W: Write, E: Write>(streams: &mut Streams<R, W, E>, table: Table) {
     let mut text = [0u8; PANEL_BYTES];
     let n = flow::panel(table, &mut text);
-    write_fails(streams, &text, n);
+    let _ = streams.write(b"standard output", &text, n);
 }
 
 // The keys that are down once the packets of standard input have gone up. Where the input could not be
 // read to its end, none are shown.
 pub fn panel<V: Env, R: Read, W: Write, E: Write>(env: &V, streams: &mut Streams<R, W, E>) {
-    let start = start::taken(env, &mut streams.errors, b"panel", Takes::Channels);
-    let s = turns(streams, Panel, start);
-    let ending = ending(&s);
-    let totals = s.totals;
-    if s.ended {
-        show(streams, s.table);
+    let Ok(table) = start::taken(env, &mut streams.errors, b"panel") else {
+        return;
+    };
+    let mut filter = Filter::new(Panel, table);
+    let left = filter.run(streams);
+    if left.is_ok() {
+        show(streams, filter.table);
     }
-    notice::say_reader(
+    let read = Amount {
+        number: filter.totals.read,
+        word: b" words",
+    };
+    let counts = &filter.totals.counts;
+    notice::say_end(
         &mut streams.errors,
         b"panel",
-        totals.read,
-        totals.counts,
-        ending,
+        read,
+        None,
+        counts,
+        ending(left),
     );
 }

@@ -6,11 +6,13 @@
 // functions are proved to be safe and to end.
 #![tactic(auto)]
 
-use chains::{CHAINS, Chain};
+ghost use Rattle.std.specs.Prelude.{◌≤◌, length, IfOk};
+
+use chains::CHAINS;
 use gather::{Collector, gather_some, is_open};
-use notice::Ending;
+use notice::{Amount, Ending};
 pub use ports::Streams;
-use start::Takes;
+use ports::{Failed, Turn, Turns};
 use std::env::Env;
 use std::io::{Read, Write};
 use stream::NO_ROOM;
@@ -27,105 +29,89 @@ const BUFFER_BYTES: usize = 0x10000;
 // The lines of one turn, which are written before the next.
 const TEXT_BYTES: usize = 0x10000;
 
-// What goes on from one turn to the next. The bytes that are left stand at the front of the input. Where
-// packets among them wait for room in the text, they come before more is read.
+// What goes on from one turn to the next, with the parts of all chains; and the buffers of a turn, the words of the
+// input and the lines.
 #[derive(Drop)]
-struct LibrarianState {
-    chains: [Chain; CHAINS],
-    counts: [u64; SORTS],
+struct Librarian {
+    collector: Collector,
+    parts: [u8; BUFFER_BYTES],
     read: u64,
-    left: usize,
-    waits: bool,
-    ended: bool,
-    failed: bool,
+    words: [u32; INPUT_WORDS],
+    text: [u8; TEXT_BYTES],
 }
 
-// Reads once, collects the whole packets, writes the lines that they come to and keeps the bytes that are
-// left.
-fn turn<R: Read, W: Write, E: Write>(
-    streams: &mut Streams<R, W, E>,
-    s: LibrarianState,
-    bytes: &mut [u8],
-    words: &mut [u32],
-    buffer: &mut [u8],
-    text: &mut [u8],
-) -> LibrarianState {
-    let got = streams.read_more(b"standard input", bytes, s.left, s.waits);
-    let have = got.have;
-    let n = wire::words_of(&bytes[..have], words);
-    let chains = s.chains;
-    let counts = s.counts;
-    let mut collector = Collector { chains, counts };
-    let done = gather_some(&mut collector, buffer, &words[..n], text);
-    let failed = streams.write_fails(b"standard output", text, done.written);
-    let left = wire::carry(bytes, 4 * done.read, have);
-    let chains = collector.chains;
-    let counts = collector.counts;
-    LibrarianState {
-        chains,
-        counts,
-        read: s.read.wrapping_add(done.read as u64),
-        left,
-        waits: done.answer == NO_ROOM,
-        ended: got.ended,
-        failed: got.failed | failed,
+impl<R: Read, W: Write, E: Write> Turns<R, W, E> for Librarian {
+    // Collects the whole packets, and writes the lines that they come to.
+    fn turn(&mut self, streams: &mut Streams<R, W, E>, bytes: &[u8]) -> Result<Turn, Failed>
+        ensures { IfOk result (λ turn. turn.read ≤ length bytes.now) }
+    {
+        let n = wire::words_of(bytes, &mut self.words);
+        let words = &self.words[..n];
+        let done = gather_some(&mut self.collector, &mut self.parts, words, &mut self.text);
+        self.read = self.read.wrapping_add(done.read as u64);
+        streams.write(b"standard output", &self.text, done.written)?;
+        Ok(Turn {
+            read: 4 * done.read,
+            waits: done.answer == NO_ROOM,
+        })
     }
 }
 
-// All turns, and none where an argument is wrong. A proved loop has to end, and nothing says that the
-// input does: the turns are counted down from a number that no input uses up.
-fn turns<R: Read, W: Write, E: Write>(
-    streams: &mut Streams<R, W, E>,
-    wrong: bool,
-) -> LibrarianState {
-    let mut bytes = [0u8; INPUT_BYTES];
-    let mut words = [0u32; INPUT_WORDS];
-    let mut buffer = [0u8; BUFFER_BYTES];
-    let mut text = [0u8; TEXT_BYTES];
-    let mut s = LibrarianState {
-        chains: [chains::closed_chain(); CHAINS],
-        counts: [0; SORTS],
-        read: 0,
-        left: 0,
-        waits: false,
-        ended: false,
-        failed: wrong,
-    };
-    let mut more = u64::MAX;
-    while more > 0 && !(s.ended | s.failed) {
-        s = turn(streams, s, &mut bytes, &mut words, &mut buffer, &mut text);
-        more -= 1;
+impl Librarian {
+    fn new() -> Librarian {
+        Librarian {
+            collector: Collector {
+                chains: [chains::closed_chain(); CHAINS],
+                counts: [0; SORTS],
+            },
+            parts: [0; BUFFER_BYTES],
+            read: 0,
+            words: [0; INPUT_WORDS],
+            text: [0; TEXT_BYTES],
+        }
     }
-    s
-}
 
-// Whether any chain is open.
-fn is_any_open(chains: [Chain; CHAINS]) -> bool {
-    let mut any = false;
-    let mut i: usize = 0;
-    while i < CHAINS {
-        any = any | is_open(&chains, i);
-        i += 1;
+    // All turns: answers how many bytes are left at the end of the input.
+    fn run<R: Read, W: Write, E: Write>(
+        &mut self,
+        streams: &mut Streams<R, W, E>,
+    ) -> Result<usize, Failed> {
+        let mut bytes = [0u8; INPUT_BYTES];
+        streams.run(b"standard input", &mut bytes, 0, self)
     }
-    any
-}
 
-// How the input ended, where it was read to its end: within a packet, within a message, or with neither.
-fn ending(s: LibrarianState) -> Ending {
-    if s.ended & (0 < s.left) {
-        return Ending::CutPacket;
+    fn is_any_open(&self) -> bool {
+        (0..CHAINS).any(|chain| is_open(&self.collector.chains, chain))
     }
-    let chains = s.chains;
-    if s.ended & is_any_open(chains) {
-        return Ending::OpenMessage;
+
+    // How the input ended, where it was read to its end: within a packet, within a message, or with neither.
+    fn ending(&self, left: Result<usize, Failed>) -> Ending {
+        match left {
+            Ok(1..) => Ending::CutPacket,
+            Ok(_) if self.is_any_open() => Ending::OpenMessage,
+            _ => Ending::Whole,
+        }
     }
-    Ending::Whole
 }
 
 // The lines of the whole messages of standard input, and on standard error what was refused.
 pub fn whole<V: Env, R: Read, W: Write, E: Write>(env: &V, streams: &mut Streams<R, W, E>) {
-    let start = start::taken(env, &mut streams.errors, b"whole", Takes::Nothing);
-    let s = turns(streams, start.wrong);
-    let counts = s.counts;
-    notice::say_reader(&mut streams.errors, b"whole", s.read, counts, ending(s));
+    if start::nothing_taken(env, &mut streams.errors, b"whole").is_err() {
+        return;
+    }
+    let mut librarian = Librarian::new();
+    let left = librarian.run(streams);
+    let ending = librarian.ending(left);
+    let read = Amount {
+        number: librarian.read,
+        word: b" words",
+    };
+    notice::say_end(
+        &mut streams.errors,
+        b"whole",
+        read,
+        None,
+        &librarian.collector.counts,
+        ending,
+    );
 }

@@ -3,7 +3,7 @@
 // No contract can say what a terminal takes, so these functions are proved to be safe and to end.
 #![tactic(auto)]
 
-ghost use Rattle.std.specs.Prelude.{◌≤◌};
+ghost use Rattle.std.specs.Prelude.{◌<◌, ◌≤◌};
 
 use remark::Line;
 use std::io::Write;
@@ -11,7 +11,7 @@ use stream::{BAD_DATA, NO_FORM};
 use tally::{LAST_ANSWER, SORTS};
 
 // How the input ended: between two packets or messages, or within one.
-#[derive(Drop)]
+#[derive(Clone, Copy, PartialEq, Eq)]
 pub enum Ending {
     Whole,
     CutPacket,
@@ -19,117 +19,119 @@ pub enum Ending {
     OpenExclusive,
 }
 
-// With each sort that came, from one up to an end. Those behind the answers are bad data at a place.
-fn with_sorts(line: Line, counts: [u64; SORTS], from: u32, end: u32) -> Line
-    requires { end ≤ 33 }
-{
-    let mut said = line;
-    let mut sort = from;
-    while sort < end {
-        let times = counts[sort as usize];
-        if LAST_ANSWER < sort {
-            said = said.with_refused_at(BAD_DATA, (sort - LAST_ANSWER) as u64, times);
-        } else {
-            said = said.with_refused(sort, times);
+// How many there are, and the word for what is counted, after a space.
+#[derive(Clone, Copy)]
+pub struct Amount<'a> {
+    pub number: u64,
+    pub word: &'a [u8],
+}
+
+// A line with the refusals so far, and what stands before the next one.
+#[derive(Drop)]
+struct Refusals {
+    line: Line,
+    before: &'static [u8],
+}
+
+impl Ending {
+    // What is said of it, where anything is.
+    fn said(self) -> &'static [u8] {
+        match self {
+            Ending::Whole => b"",
+            Ending::CutPacket => b"; cut packet at the end",
+            Ending::OpenMessage => b"; message open at the end",
+            Ending::OpenExclusive => b"; exclusive open at the end",
         }
-        sort += 1;
     }
-    said
+}
+
+impl Refusals {
+    // With a sort and how often it came. Those behind the answers are bad data at a place.
+    fn with(self, sort: usize, times: u64) -> Refusals
+        requires { sort < 33 }
+    {
+        let line = self.line.with(self.before);
+        let answers = LAST_ANSWER as usize;
+        let line = if answers < sort {
+            line.with_number(u64::from(BAD_DATA))
+                .with(b" at ")
+                .with_number((sort - answers) as u64)
+        } else {
+            line.with_number(sort as u64)
+        };
+        Refusals {
+            line: line.with(b" x").with_number(times),
+            before: b", ",
+        }
+    }
+
+    // With each sort that came, from one up to an end.
+    fn with_sorts(self, counts: &[u64; SORTS], from: usize, end: usize) -> Refusals
+        requires { end ≤ 33 }
+    {
+        let mut said = self;
+        for sort in from..end {
+            if counts[sort] != 0 {
+                said = said.with(sort, counts[sort]);
+            }
+        }
+        said
+    }
 }
 
 // With each refusal that came, in the order of the answers, which start at 2.
-fn with_refusals(line: Line, counts: [u64; SORTS]) -> Line {
-    let first = with_sorts(line, counts, NO_FORM, BAD_DATA + 1);
-    let placed = with_sorts(first, counts, LAST_ANSWER + 1, SORTS as u32);
-    with_sorts(placed, counts, BAD_DATA + 1, LAST_ANSWER + 1)
+fn with_refusals(line: Line, counts: &[u64; SORTS]) -> Line {
+    let answers = LAST_ANSWER as usize + 1;
+    let behind = BAD_DATA as usize + 1;
+    let refusals = Refusals {
+        line,
+        before: b"; refused: ",
+    };
+    refusals
+        .with_sorts(counts, NO_FORM as usize, behind)
+        .with_sorts(counts, answers, SORTS)
+        .with_sorts(counts, behind, answers)
+        .line
 }
 
-// The name of a program, and how much it read.
-fn reading(name: &[u8], read: u64, units: &[u8]) -> Line {
-    Line::empty()
+// Whether anything was refused.
+fn is_refused(counts: &[u64; SORTS]) -> bool {
+    counts[NO_FORM as usize..].iter().any(|times| *times != 0)
+}
+
+// What a program says at the end: how much it read, and how much it wrote where it writes packets or messages, what
+// was refused and how the input ended; and nothing where nothing was refused and nothing cut.
+pub fn say_end<E: Write>(
+    errors: &mut E,
+    name: &[u8],
+    read: Amount<'_>,
+    written: Option<Amount<'_>>,
+    counts: &[u64; SORTS],
+    ending: Ending,
+) {
+    if !is_refused(counts) & (ending == Ending::Whole) {
+        return;
+    }
+    let mut line = Line::empty()
         .with(name)
         .with(b": read ")
-        .with_number(read)
-        .with(units)
-}
-
-// Says the line, with what was refused and how the input ended, where there is something to say.
-fn say<E: Write>(errors: &mut E, line: Line, counts: [u64; SORTS], ending: Ending) {
-    let refused = with_refusals(line, counts);
-    match ending {
-        Ending::Whole => {
-            if refused.refused {
-                refused.write(errors);
-            }
-        }
-        Ending::CutPacket => refused.with(b"; cut packet at the end").write(errors),
-        Ending::OpenMessage => refused.with(b"; message open at the end").write(errors),
-        Ending::OpenExclusive => refused.with(b"; exclusive open at the end").write(errors),
+        .with_number(read.number)
+        .with(read.word);
+    if let Some(written) = written {
+        line = line
+            .with(b", wrote ")
+            .with_number(written.number)
+            .with(written.word);
     }
+    with_refusals(line, counts).with(ending.said()).write(errors);
 }
 
-// What a filter says at the end: the words read and those written, and nothing where nothing was refused
-// and nothing cut.
-pub fn say_filter<E: Write>(
-    errors: &mut E,
-    name: &[u8],
-    read: u64,
-    written: u64,
-    counts: [u64; SORTS],
-    ending: Ending,
-) {
-    let line = reading(name, read, b" words, wrote ").with_number(written);
-    say(errors, line, counts, ending);
-}
-
-// The same of a filter from the bytes of a cable to words.
-pub fn say_import<E: Write>(
-    errors: &mut E,
-    name: &[u8],
-    read: u64,
-    written: u64,
-    counts: [u64; SORTS],
-    ending: Ending,
-) {
-    let line = reading(name, read, b" bytes, wrote ")
-        .with_number(written)
-        .with(b" words");
-    say(errors, line, counts, ending);
-}
-
-// The same of a filter from words to the bytes of a cable.
-pub fn say_export<E: Write>(
-    errors: &mut E,
-    name: &[u8],
-    read: u64,
-    written: u64,
-    counts: [u64; SORTS],
-    ending: Ending,
-) {
-    let line = reading(name, read, b" words, wrote ")
-        .with_number(written)
-        .with(b" bytes");
-    say(errors, line, counts, ending);
-}
-
-// The same of a program that writes no words.
-pub fn say_reader<E: Write>(
-    errors: &mut E,
-    name: &[u8],
-    read: u64,
-    counts: [u64; SORTS],
-    ending: Ending,
-) {
-    say(errors, reading(name, read, b" words"), counts, ending);
-}
-
-// Says what is wrong with an argument, and its bytes as they came. Dots stand for those that are not
-// shown.
-pub fn say_wrong<E: Write>(errors: &mut E, name: &[u8], what: &[u8], argument: &[u8], more: bool) {
-    let line = Line::empty().with(name).with(what).with(argument);
-    if more {
-        line.with(b"...").write(errors);
-    } else {
-        line.write(errors);
-    }
+// Says what is wrong with an argument, and its bytes as they came, with what stands for those that are not shown.
+pub fn say_wrong<E: Write>(errors: &mut E, name: &[u8], what: &[u8], argument: &[u8], rest: &[u8]) {
+    Line::empty()
+        .with(name)
+        .with(what)
+        .with(argument)
+        .with(rest)
+        .write(errors);
 }

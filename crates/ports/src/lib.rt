@@ -1,22 +1,25 @@
 // The ends of a program: bytes that are read after those that are left, bytes that are written, and what is
-// said on standard error.
+// said on standard error; and the turns of a program, a buffer of its input at a time.
 //
 // No contract can say what a file or a terminal gives or takes, so these functions are proved to be safe
 // and to end, and a reading to leave no more bytes than its buffer holds. What failed is said on standard
 // error.
 #![tactic(auto)]
 
-ghost use Rattle.std.specs.Prelude.{◌≡◌, ◌≤◌, length};
+ghost use Rattle.std.specs.Prelude.{◌≡◌, ◌≤◌, length, IfOk};
 
 use std::fmt::InlineText;
 use std::io::{Error, ErrorKind, Read, Write};
 
-// The bytes that stand in a buffer after a read.
-#[derive(Drop)]
+// That a program cannot go on, which has been said.
+#[derive(Clone, Copy)]
+pub struct Failed;
+
+// The bytes that stand in a buffer after a read, and whether the input has ended, where it could be read.
+#[derive(Clone, Copy)]
 pub struct Intake {
     pub have: usize,
-    pub ended: bool,
-    pub failed: bool,
+    pub ended: Result<bool, Failed>,
 }
 
 // Where a program reads from and writes to, and where it says what failed.
@@ -25,6 +28,21 @@ pub struct Streams<R, W, E> {
     pub input: R,
     pub output: W,
     pub errors: E,
+}
+
+// What a turn came to: the bytes that are done with, and whether packets among those that are left wait for
+// room in the output.
+#[derive(Clone, Copy)]
+pub struct Turn {
+    pub read: usize,
+    pub waits: bool,
+}
+
+// What a program makes of its input, a buffer at a time.
+pub trait Turns<R, W, E> {
+    // Treats the bytes from the first on, and writes what they come to.
+    fn turn(&mut self, streams: &mut Streams<R, W, E>, bytes: &[u8]) -> Result<Turn, Failed>
+        ensures { IfOk result (λ turn. turn.read ≤ length bytes.now) };
 }
 
 // More bytes than the text of an error has.
@@ -63,60 +81,46 @@ pub fn read_more<R: Read, E: Write>(
     if bytes.len() <= left {
         return Intake {
             have: bytes.len(),
-            ended: false,
-            failed: false,
+            ended: Ok(false),
         };
     }
+    let unread = Intake {
+        have: left,
+        ended: Ok(false),
+    };
     if waits {
-        return Intake {
-            have: left,
-            ended: false,
-            failed: false,
-        };
+        return unread;
     }
     match from.read(&mut bytes[left..]) {
         Ok(n) => Intake {
             have: left + n,
-            ended: n == 0,
-            failed: false,
+            ended: Ok(n == 0),
         },
+        Err(error) if error.kind() == ErrorKind::Interrupted => unread,
         Err(error) => {
-            let failed = error.kind() != ErrorKind::Interrupted;
-            if failed {
-                say_failed(errors, name, &error);
-            }
+            say_failed(errors, name, &error);
             Intake {
-                have: left,
-                ended: false,
-                failed,
+                ended: Err(Failed),
+                ..unread
             }
         }
     }
 }
 
 // Writes the first bytes of the text, or all of it where it has no more.
-fn write_first<W: Write>(to: &mut W, text: &[u8], n: usize) -> Result<(), Error> {
-    if n < text.len() {
-        return to.write_all(&text[..n]);
-    }
-    to.write_all(text)
-}
-
-// Whether the first bytes of the text could not all be written.
-pub fn write_fails<W: Write, E: Write>(
+pub fn write_first<W: Write, E: Write>(
     to: &mut W,
     errors: &mut E,
     name: &[u8],
     text: &[u8],
     n: usize,
-) -> bool {
-    match write_first(to, text, n) {
-        Ok(()) => false,
-        Err(error) => {
-            say_failed(errors, name, &error);
-            true
-        }
+) -> Result<(), Failed> {
+    let first = text.get(..n).unwrap_or(text);
+    if let Err(error) = to.write_all(first) {
+        say_failed(errors, name, &error);
+        return Err(Failed);
     }
+    Ok(())
 }
 
 impl<R, W, E> Streams<R, W, E> {
@@ -134,15 +138,44 @@ impl<R, W, E> Streams<R, W, E> {
 }
 
 impl<R: Read, W: Write, E: Write> Streams<R, W, E> {
-    // Reads from the input after the bytes that are left, as `read_more` does.
-    pub fn read_more(&mut self, name: &[u8], bytes: &mut [u8], left: usize, waits: bool) -> Intake
-        ensures { result.have ≤ length bytes.new }
-    {
-        read_more(&mut self.input, &mut self.errors, name, bytes, left, waits)
+    // Writes the first bytes of the text to the output, as `write_first` does.
+    pub fn write(&mut self, name: &[u8], text: &[u8], n: usize) -> Result<(), Failed> {
+        write_first(&mut self.output, &mut self.errors, name, text, n)
     }
 
-    // Whether the first bytes of the text could not all be written to the output.
-    pub fn write_fails(&mut self, name: &[u8], text: &[u8], n: usize) -> bool {
-        write_fails(&mut self.output, &mut self.errors, name, text, n)
+    // All turns, until the input has ended and nothing waits: answers how many bytes are left then. The bytes that
+    // are left stand at the front of the buffer, and where packets among them wait, they come before more is read. Where
+    // no more can be read, they are treated once more.
+    //
+    // A proved loop has to end, and nothing says that the input does: the turns are counted up to a number that no
+    // input uses up.
+    pub fn run<P: Turns<R, W, E>>(
+        &mut self,
+        name: &[u8],
+        bytes: &mut [u8],
+        begun: usize,
+        program: &mut P,
+    ) -> Result<usize, Failed> {
+        let mut left = begun;
+        let mut waits = false;
+        let mut ended = false;
+        for _ in 0..u64::MAX {
+            let got = read_more(
+                &mut self.input,
+                &mut self.errors,
+                name,
+                bytes,
+                left,
+                waits,
+            );
+            let turn = program.turn(self, &bytes[..got.have])?;
+            left = wire::carry(bytes, turn.read, got.have);
+            waits = turn.waits;
+            ended = ended | got.ended?;
+            if ended & !waits {
+                break;
+            }
+        }
+        Ok(left)
     }
 }

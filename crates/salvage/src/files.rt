@@ -1,14 +1,11 @@
 // The arguments, and a rescue from one file into another.
-use crate::{INPUT_BYTES, Names, Progress, Streams, begin, rescue_input, rescue_rest};
+use crate::{INPUT_BYTES, Names, Streams, begin, rescue_input, rescue_rest};
 use remark::Line;
-use std::env::{Env, FillError};
+use std::env::Env;
 use std::fs::{Files, OpenFile, OpenOptions};
 use std::io::{Error, ErrorKind, Read, Write};
 use std::os::fd::AsRawFd;
 use std::{fs, io};
-
-// The bytes of a wrong argument that are shown.
-const SHOWN_BYTES: usize = 0x100;
 
 // More bytes than the name of a file may have.
 const NAME_BYTES: usize = 0x1000;
@@ -49,10 +46,7 @@ fn refuse_standard<F: AsRawFd + Drop, W: Write, E: Write>(file: F, output: &mut 
 
 // The name of a file as text, which it has to be.
 fn name_of(bytes: &[u8]) -> io::Result<&str> {
-    match std::str::from_utf8(bytes) {
-        Ok(name) => Ok(name),
-        Err(_) => Err(Error::from(ErrorKind::InvalidFilename)),
-    }
+    std::str::from_utf8(bytes).map_err(|_| Error::from(ErrorKind::InvalidFilename))
 }
 
 // The old file, open for reading alone.
@@ -82,11 +76,11 @@ fn rescue_between<F: Read + Write + OpenFile + Drop, W: Write, E: Write>(
     output: &mut W,
     errors: &mut E,
     names: Names<'_>,
-    begun: Progress,
+    begun: usize,
     bytes: &mut [u8],
 ) {
     let mut ends = Streams::new(from, clean, &mut *errors);
-    rescue_rest(&mut ends, output, names, begun, bytes);
+    let _ = rescue_rest(&mut ends, output, names, begun, bytes);
     if let Err(error) = ends.output.sync_all() {
         if !is_no_wait(&error) {
             ports::say_failed(&mut *ends.errors, names.new, &error);
@@ -101,7 +95,7 @@ fn rescue_into<H: Files, W: Write, E: Write>(
     output: &mut W,
     errors: &mut E,
     names: Names<'_>,
-    begun: Progress,
+    begun: usize,
     bytes: &mut [u8],
 )
 where
@@ -132,8 +126,7 @@ where
 {
     let mut from = from;
     let mut bytes = [0u8; INPUT_BYTES];
-    let begun = begin(&mut from, output, errors, names, &mut bytes);
-    if !begun.failed {
+    if let Ok(begun) = begin(&mut from, output, errors, names, &mut bytes) {
         rescue_into(files, from, output, errors, names, begun, &mut bytes);
     }
 }
@@ -186,23 +179,6 @@ where
     }
 }
 
-// Names an argument that is one too many.
-fn say_wrong<V: Env, E: Write>(env: &V, errors: &mut E, i: usize) {
-    let mut bytes = [0u8; SHOWN_BYTES];
-    let line = Line::empty().with(b"rescue: takes OLD and NEW, or nothing: ");
-    match env.arg(i, &mut bytes) {
-        Ok(n) => line.with(&bytes[..n]).write(errors),
-        Err(FillError::TooLong) => line.with(&bytes).with(b"...").write(errors),
-        Err(FillError::NotPresent) => line.write(errors),
-    }
-}
-
-// Whether there is an argument at a place.
-fn is_given<V: Env>(env: &V, i: usize) -> bool {
-    let mut bytes = [0u8; SHOWN_BYTES];
-    !matches!(env.arg(i, &mut bytes), Err(FillError::NotPresent))
-}
-
 // What the program does, by its arguments. Argument 0 is the program itself. Where it reads standard input, the
 // lines go to `lines`, which is standard error once more.
 pub fn rescue<H: Env + Files, R: Read, W: Write, L: Write, E: Write>(
@@ -213,15 +189,16 @@ pub fn rescue<H: Env + Files, R: Read, W: Write, L: Write, E: Write>(
 where
     H::File: AsRawFd,
 {
-    if !is_given(rt, 1) {
-        rescue_input(streams, lines);
-    } else if !is_given(rt, 2) {
+    if !start::is_given(rt, 1) {
+        let _ = rescue_input(streams, lines);
+    } else if !start::is_given(rt, 2) {
         Line::empty()
             .with(b"rescue: takes OLD and NEW, or nothing: NEW is missing")
             .write(&mut streams.errors);
-    } else if !is_given(rt, 3) {
+    } else if !start::is_given(rt, 3) {
         rescue_named(rt, &mut streams.output, &mut streams.errors);
     } else {
-        say_wrong(rt, &mut streams.errors, 3);
+        let what = b": takes OLD and NEW, or nothing: ";
+        start::say_wrong(rt, &mut streams.errors, b"rescue", what, 3);
     }
 }

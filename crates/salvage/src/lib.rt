@@ -9,11 +9,11 @@
 
 mod files;
 
-ghost use Rattle.std.specs.Prelude.{◌≡◌, ◌*◌, ◌≤◌, length};
+ghost use Rattle.std.specs.Prelude.{◌≡◌, ◌*◌, ◌≤◌, length, IfOk};
 
 pub use files::rescue;
-use ports::Intake;
 pub use ports::Streams;
+use ports::{Failed, Turn, Turns};
 use recording::{HEADER_BYTES, Line, Past};
 use rescuing::{keep_some, tell_some};
 use std::io::{Read, Write};
@@ -39,22 +39,23 @@ struct Names<'a> {
     lines: &'a [u8],
 }
 
-// What goes on from one turn to the next. The bytes that are left stand at the front of the input. Where
-// packets among them wait for room in the text, they come before more is read.
+// What goes on from one turn to the next; and the buffers of a turn, the words of the input, those that are kept
+// and their bytes, and the lines, with where they go.
 #[derive(Drop)]
-struct Progress {
+struct Salvage<'a, L> {
+    lines: &'a mut L,
+    names: Names<'a>,
     past: Past,
-    left: usize,
-    waits: bool,
-    ended: bool,
-    failed: bool,
+    words: [u32; INPUT_WORDS],
+    kept: [u32; INPUT_WORDS],
+    clean: [u8; INPUT_BYTES],
+    text: [u8; TEXT_BYTES],
 }
 
 // What the bytes of a buffer came to: the words read, the bytes of the clean recording and those of the
 // lines.
-#[derive(Drop)]
+#[derive(Clone, Copy)]
 struct Treated {
-    past: Past,
     read: usize,
     clean: usize,
     lines: usize,
@@ -65,56 +66,70 @@ struct Treated {
 fn first(words: &[u32], n: usize) -> &[u32]
     ensures { length result.now ≤ n }
 {
-    if n < words.len() { &words[..n] } else { words }
+    words.get(..n).unwrap_or(words)
 }
 
-// The packets among the bytes: those that are kept as bytes, and what is said of each as text.
-fn treat(
-    past: Past,
-    bytes: &[u8],
-    words: &mut [u32],
-    kept: &mut [u32],
-    clean: &mut [u8],
-    text: &mut [u8],
-) -> Treated
-    ensures { 4 * result.read ≤ length bytes.now }
-{
-    let n = wire::words_of(bytes, words);
-    let told = tell_some(past, first(words, n), text);
-    let done = told.done;
-    let packets = first(words, done.read);
-    let keeping = keep_some(packets, kept);
-    let clean = wire::bytes_of(first(kept, keeping.written), clean);
-    let past = told.past;
-    Treated {
-        past,
-        read: packets.len(),
-        clean,
-        lines: done.written,
-        waits: done.answer == NO_ROOM,
+impl<L> Salvage<'_, L> {
+    // The packets among the bytes: those that are kept as bytes, and what is said of each as text.
+    fn treat(&mut self, bytes: &[u8]) -> Treated
+        ensures { 4 * result.read ≤ length bytes.now }
+    {
+        let n = wire::words_of(bytes, &mut self.words);
+        let told = tell_some(self.past, first(&self.words, n), &mut self.text);
+        let done = told.done;
+        let packets = first(&self.words, done.read);
+        let keeping = keep_some(packets, &mut self.kept);
+        let clean = wire::bytes_of(first(&self.kept, keeping.written), &mut self.clean);
+        let read = packets.len();
+        self.past = told.past;
+        Treated {
+            read,
+            clean,
+            lines: done.written,
+            waits: done.answer == NO_ROOM,
+        }
     }
 }
 
-// Reads until the header is there, or the input ends.
+impl<R: Read, W: Write, E: Write, L: Write> Turns<R, W, E> for Salvage<'_, L> {
+    // Writes what the whole packets come to. Where the clean recording takes nothing, the lines are still written.
+    fn turn(&mut self, streams: &mut Streams<R, W, E>, bytes: &[u8]) -> Result<Turn, Failed>
+        ensures { IfOk result (λ turn. turn.read ≤ length bytes.now) }
+    {
+        let names = self.names;
+        let treated = self.treat(bytes);
+        let cleaned = streams.write(names.new, &self.clean, treated.clean);
+        let errors = &mut streams.errors;
+        ports::write_first(self.lines, errors, names.lines, &self.text, treated.lines)?;
+        cleaned?;
+        Ok(Turn {
+            read: 4 * treated.read,
+            waits: treated.waits,
+        })
+    }
+}
+
+// Reads until the header is there, or the input ends: answers how many bytes stand in the buffer.
 fn read_header<R: Read, E: Write>(
     from: &mut R,
     errors: &mut E,
     old: &[u8],
     bytes: &mut [u8],
-) -> Intake
-    ensures { result.have ≤ length bytes.new }
+) -> Result<usize, Failed>
+    ensures { IfOk result (λ have. have ≤ length bytes.new) }
 {
-    let mut got = Intake {
-        have: 0,
-        ended: false,
-        failed: false,
-    };
-    let mut more = u64::MAX;
-    while more > 0 && !(got.ended | got.failed | (HEADER_BYTES <= got.have)) {
-        got = ports::read_more(from, errors, old, bytes, got.have, false);
-        more -= 1;
+    let mut have = 0;
+    for _ in 0..u64::MAX {
+        if HEADER_BYTES <= have {
+            break;
+        }
+        let got = ports::read_more(from, errors, old, bytes, have, false);
+        have = got.have;
+        if got.ended? {
+            break;
+        }
     }
-    got
+    Ok(have)
 }
 
 // Says an answer alone.
@@ -122,88 +137,24 @@ fn say_answer<L: Write, E: Write>(lines: &mut L, errors: &mut E, name: &[u8], an
     let mut text = [0u8; SHORT_BYTES];
     let line = Line::Answer(answer);
     let n = line.put(&mut text, 0).unwrap_or(0);
-    ports::write_fails(lines, errors, name, &text, n);
+    let _ = ports::write_first(lines, errors, name, &text, n);
 }
 
-// Where a recording begins, the bytes behind its header are left at the front. Of anything else the
-// answer is said, and then it does not go on.
+// Where a recording begins, the bytes behind its header are left at the front, and it answers how many they are. Of
+// anything else the answer is said, and then it does not go on.
 fn begin<R: Read, L: Write, E: Write>(
     from: &mut R,
     lines: &mut L,
     errors: &mut E,
     names: Names<'_>,
     bytes: &mut [u8],
-) -> Progress {
-    let got = read_header(from, errors, names.old, bytes);
-    let have = got.have;
-    let header = recording::header_answer(&bytes[..have]);
-    let left = wire::carry(bytes, HEADER_BYTES, have);
-    let unread = got.failed;
-    if let Err(error) = header
-        && !unread
-    {
+) -> Result<usize, Failed> {
+    let have = read_header(from, errors, names.old, bytes)?;
+    if let Err(error) = recording::header_answer(&bytes[..have]) {
         say_answer(lines, errors, names.lines, error.answer());
+        return Err(Failed);
     }
-    Progress {
-        past: Past::start(),
-        left,
-        waits: false,
-        ended: false,
-        failed: unread | header.is_err(),
-    }
-}
-
-// Reads once, writes what the whole packets come to and keeps the bytes that are left.
-fn turn<R: Read, W: Write, L: Write, E: Write>(
-    ends: &mut Streams<R, W, E>,
-    lines: &mut L,
-    names: Names<'_>,
-    s: Progress,
-    bytes: &mut [u8],
-    words: &mut [u32],
-    kept: &mut [u32],
-    clean: &mut [u8],
-    text: &mut [u8],
-) -> Progress {
-    let got = ends.read_more(names.old, bytes, s.left, s.waits);
-    let have = got.have;
-    let past = s.past;
-    let treated = treat(past, &bytes[..have], words, kept, clean, text);
-    let unclean = ends.write_fails(names.new, clean, treated.clean);
-    let unsaid = ports::write_fails(lines, &mut ends.errors, names.lines, text, treated.lines);
-    let left = wire::carry(bytes, 4 * treated.read, have);
-    let past = treated.past;
-    Progress {
-        past,
-        left,
-        waits: treated.waits,
-        ended: s.ended | got.ended,
-        failed: got.failed | unclean | unsaid,
-    }
-}
-
-// All turns, until the input has ended and nothing waits. A proved loop has to end, and nothing says that
-// the input does: the turns are counted down from a number that no input uses up.
-fn turns<R: Read, W: Write, L: Write, E: Write>(
-    ends: &mut Streams<R, W, E>,
-    lines: &mut L,
-    names: Names<'_>,
-    begun: Progress,
-    bytes: &mut [u8],
-) -> Progress {
-    let mut words = [0u32; INPUT_WORDS];
-    let mut kept = [0u32; INPUT_WORDS];
-    let mut clean = [0u8; INPUT_BYTES];
-    let mut text = [0u8; TEXT_BYTES];
-    let mut s = begun;
-    let mut more = u64::MAX;
-    while more > 0 && !(s.failed | (s.ended & !s.waits)) {
-        s = turn(
-            ends, lines, names, s, bytes, &mut words, &mut kept, &mut clean, &mut text,
-        );
-        more -= 1;
-    }
-    s
+    Ok(wire::carry(bytes, HEADER_BYTES, have))
 }
 
 // Everything behind the header: a new header, the packets that are kept, and what is said.
@@ -211,27 +162,30 @@ fn rescue_rest<R: Read, W: Write, L: Write, E: Write>(
     ends: &mut Streams<R, W, E>,
     lines: &mut L,
     names: Names<'_>,
-    begun: Progress,
+    begun: usize,
     bytes: &mut [u8],
-) {
-    let header = recording::header_bytes();
-    if ends.write_fails(names.new, &header, HEADER_BYTES) {
-        return;
-    }
-    let s = turns(ends, lines, names, begun, bytes);
-    let past = s.past;
-    if !s.failed {
-        let mut text = [0u8; SHORT_BYTES];
-        let n = rescuing::tell_end(past.place, s.left, &mut text);
-        ports::write_fails(lines, &mut ends.errors, names.lines, &text, n);
-    }
+) -> Result<(), Failed> {
+    ends.write(names.new, &recording::header_bytes(), HEADER_BYTES)?;
+    let mut salvage = Salvage {
+        lines,
+        names,
+        past: Past::start(),
+        words: [0; INPUT_WORDS],
+        kept: [0; INPUT_WORDS],
+        clean: [0; INPUT_BYTES],
+        text: [0; TEXT_BYTES],
+    };
+    let left = ends.run(names.old, bytes, begun, &mut salvage)?;
+    let mut text = [0u8; SHORT_BYTES];
+    let n = rescuing::tell_end(salvage.past.place, left, &mut text);
+    ports::write_first(salvage.lines, &mut ends.errors, names.lines, &text, n)
 }
 
 // From standard input to standard output, with the lines on standard error.
 fn rescue_input<R: Read, W: Write, L: Write, E: Write>(
     streams: &mut Streams<R, W, E>,
     lines: &mut L,
-) {
+) -> Result<(), Failed> {
     let names = Names {
         old: b"rescue: standard input",
         new: b"rescue: standard output",
@@ -244,8 +198,6 @@ fn rescue_input<R: Read, W: Write, L: Write, E: Write>(
         &mut streams.errors,
         names,
         &mut bytes,
-    );
-    if !begun.failed {
-        rescue_rest(streams, lines, names, begun, &mut bytes);
-    }
+    )?;
+    rescue_rest(streams, lines, names, begun, &mut bytes)
 }

@@ -6,10 +6,11 @@
 // can say what is read or written, so these functions are proved to be safe and to end.
 #![tactic(auto)]
 
-ghost use Rattle.std.specs.Prelude.{◌≤◌, length};
+ghost use Rattle.std.specs.Prelude.{◌≤◌, length, IfOk};
 
-use notice::Ending;
+use notice::{Amount, Ending};
 pub use ports::Streams;
+use ports::{Failed, Turn, Turns};
 use screen::NEITHER_TYPE;
 use std::env::Env;
 use std::io::{Read, Write};
@@ -26,17 +27,16 @@ const INPUT_WORDS: usize = 0x1000;
 // Room for some lines: none has more than 0x2000 bytes.
 const TEXT_BYTES: usize = 0x8000;
 
-// What goes on from one turn to the next. The bytes that are left stand at the front of the input. Where
-// the line of a packet among them waits for room, they come before more is read.
+// What goes on from one turn to the next, with the units of the bend's range; and the buffers of a turn, the words of
+// the input and the lines.
 #[derive(Drop)]
-struct State {
+struct Display {
     desk: Desk,
+    units: u8,
     read: u64,
     counts: [u64; SORTS],
-    left: usize,
-    waits: bool,
-    ended: bool,
-    failed: bool,
+    words: [u32; INPUT_WORDS],
+    text: [u8; TEXT_BYTES],
 }
 
 // With the packets of the words, each by the answer that refuses it, and bad data by its place.
@@ -52,83 +52,75 @@ fn counted_all(counts: [u64; SORTS], words: &[u32]) -> [u64; SORTS] {
     counts
 }
 
-// Reads once, hears the whole packets, writes their lines and keeps the bytes that are left.
-fn turn<R: Read, W: Write, E: Write>(
-    streams: &mut Streams<R, W, E>,
-    units: u32,
-    s: State,
-    bytes: &mut [u8],
-    words: &mut [u32],
-    text: &mut [u8],
-) -> State {
-    let got = streams.read_more(b"desk: standard input", bytes, s.left, s.waits);
-    let have = got.have;
-    let n = wire::words_of(&bytes[..have], words);
-    let desk = s.desk;
-    let shown = display::show_some(desk, units, &words[..n], text);
-    let done = shown.done;
-    let read = done.read;
-    let failed = streams.write_fails(b"desk: standard output", text, done.written);
-    let counts = s.counts;
-    let counts = counted_all(counts, &words[..read]);
-    let left = wire::carry(bytes, 4 * read, have);
-    let desk = shown.desk;
-    State {
-        desk,
-        read: s.read.wrapping_add(read as u64),
-        counts,
-        left,
-        waits: done.answer == NO_ROOM,
-        ended: got.ended,
-        failed: got.failed | failed,
+impl<R: Read, W: Write, E: Write> Turns<R, W, E> for Display {
+    // Hears the whole packets, and writes their lines.
+    fn turn(&mut self, streams: &mut Streams<R, W, E>, bytes: &[u8]) -> Result<Turn, Failed>
+        ensures { IfOk result (λ turn. turn.read ≤ length bytes.now) }
+    {
+        let n = wire::words_of(bytes, &mut self.words);
+        let words = &self.words[..n];
+        let desk = self.desk;
+        let shown = display::show_some(desk, u32::from(self.units), words, &mut self.text);
+        let done = shown.done;
+        let desk = shown.desk;
+        self.desk = desk;
+        let counts = self.counts;
+        let counts = counted_all(counts, &words[..done.read]);
+        self.counts = counts;
+        self.read = self.read.wrapping_add(done.read as u64);
+        streams.write(b"desk: standard output", &self.text, done.written)?;
+        Ok(Turn {
+            read: 4 * done.read,
+            waits: done.answer == NO_ROOM,
+        })
     }
 }
 
-// All turns, and none where an argument is wrong. A proved loop has to end, and nothing says that the
-// input does: the turns are counted down from a number that no input uses up.
-fn turns<R: Read, W: Write, E: Write>(
-    streams: &mut Streams<R, W, E>,
-    desk: Desk,
-    units: u32,
-    wrong: bool,
-) -> State {
-    let mut bytes = [0u8; INPUT_BYTES];
-    let mut words = [0u32; INPUT_WORDS];
-    let mut text = [0u8; TEXT_BYTES];
-    let mut s = State {
-        desk,
-        read: 0,
-        counts: [0; SORTS],
-        left: 0,
-        waits: false,
-        ended: false,
-        failed: wrong,
-    };
-    let mut more = u64::MAX;
-    while more > 0 && !(s.ended | s.failed) {
-        s = turn(streams, units, s, &mut bytes, &mut words, &mut text);
-        more -= 1;
+impl Display {
+    fn new(desk: Desk, units: u8) -> Display {
+        Display {
+            desk,
+            units,
+            read: 0,
+            counts: [0; SORTS],
+            words: [0; INPUT_WORDS],
+            text: [0; TEXT_BYTES],
+        }
     }
-    s
-}
 
-// How the input ended.
-fn ending(s: State) -> Ending {
-    if s.ended & (0 < s.left) {
-        Ending::CutPacket
-    } else {
-        Ending::Whole
+    // All turns: answers how many bytes are left at the end of the input.
+    fn run<R: Read, W: Write, E: Write>(
+        &mut self,
+        streams: &mut Streams<R, W, E>,
+    ) -> Result<usize, Failed> {
+        let mut bytes = [0u8; INPUT_BYTES];
+        streams.run(b"desk: standard input", &mut bytes, 0, self)
     }
 }
 
 // The display of the channel that the first two arguments name, with the range that the third names; and
 // at the end a line on standard error about what was refused.
 pub fn desk<V: Env, R: Read, W: Write, E: Write>(env: &V, streams: &mut Streams<R, W, E>) {
-    let asked = start::range_chosen(env, &mut streams.errors, b"desk");
+    let Ok(asked) = start::range_chosen(env, &mut streams.errors, b"desk") else {
+        return;
+    };
     let chosen = asked.chosen;
-    let start = chosen.start;
     let desk = tuning::fresh_desk(Group(chosen.group), Channel(chosen.channel));
-    let s = turns(streams, desk, asked.units as u32, start.wrong);
-    let counts = s.counts;
-    notice::say_reader(&mut streams.errors, b"desk", s.read, counts, ending(s));
+    let mut display = Display::new(desk, asked.units);
+    let ending = match display.run(streams) {
+        Ok(1..) => Ending::CutPacket,
+        _ => Ending::Whole,
+    };
+    let read = Amount {
+        number: display.read,
+        word: b" words",
+    };
+    notice::say_end(
+        &mut streams.errors,
+        b"desk",
+        read,
+        None,
+        &display.counts,
+        ending,
+    );
 }

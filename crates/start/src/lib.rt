@@ -6,56 +6,34 @@
 // end. What an argument names and what a mark does are said by the contracts of argument and mark.
 #![tactic(auto)]
 
-use argument::{Named, Number};
 use flow::Table;
 use std::env::{Env, FillError};
 use std::io::Write;
 
-// What a program takes: channels to mark, one channel by two arguments, the same and a range by a third,
-// one group, or nothing.
+// That an argument is wrong or missing, which has been said. It forbids to start.
 #[derive(Clone, Copy)]
-pub enum Takes {
-    Channels,
-    OneChannel,
-    ChannelAndRange,
-    OneGroup,
-    Nothing,
-}
+pub struct Wrong;
 
-// The table to start from, and whether an argument forbids to start.
-#[derive(Drop)]
-pub struct Start {
-    pub table: Table,
-    pub wrong: bool,
-}
-
-// The channel that is asked for, where no argument forbids to start.
-#[derive(Drop)]
+// The channel that is asked for, by its group and its own number.
+#[derive(Clone, Copy)]
 pub struct Chosen {
-    pub start: Start,
     pub group: u8,
     pub channel: u8,
 }
 
 // The same with the units of a range.
-#[derive(Drop)]
+#[derive(Clone, Copy)]
 pub struct ChosenRange {
     pub chosen: Chosen,
     pub units: u8,
 }
 
-// The group that is asked for, and whether an argument forbids to start.
+// The arguments of a program, and where it says under its name what is wrong with them.
 #[derive(Drop)]
-pub struct ChosenGroup {
-    pub group: u8,
-    pub wrong: bool,
-}
-
-// A group, a channel or the units of a range by an argument, which is 0 where that is wrong or missing.
-#[derive(Drop)]
-struct OneNumber {
-    number: u8,
-    wrong: bool,
+struct Arguments<'v, 'e, 'n, V, E> {
+    env: &'v V,
+    errors: &'e mut E,
+    name: &'n [u8],
 }
 
 // The bytes of a wrong argument that are shown, and more than any right one has.
@@ -63,300 +41,183 @@ const SHOWN_BYTES: usize = 0x100;
 
 const COARSE: u8 = 1;
 
-// The channel that an argument names. One that is too long to be shown whole names none.
-fn channel_in<V: Env>(env: &V, i: usize) -> Named {
+// Names a wrong argument. Dots stand for the bytes that are not shown.
+pub fn say_wrong<V: Env, E: Write>(env: &V, errors: &mut E, name: &[u8], what: &[u8], i: usize) {
     let mut bytes = [0u8; SHOWN_BYTES];
     match env.arg(i, &mut bytes) {
-        Ok(n) => argument::channel_named(&bytes[..n]),
-        Err(_) => Named::Nothing,
-    }
-}
-
-// Names a wrong argument.
-fn say_wrong<V: Env, E: Write>(env: &V, errors: &mut E, name: &[u8], what: &[u8], i: usize) {
-    let mut bytes = [0u8; SHOWN_BYTES];
-    match env.arg(i, &mut bytes) {
-        Ok(n) => notice::say_wrong(errors, name, what, &bytes[..n], false),
-        Err(FillError::TooLong) => notice::say_wrong(errors, name, what, &bytes, true),
-        Err(FillError::NotPresent) => notice::say_wrong(errors, name, what, b"", false),
+        Ok(n) => notice::say_wrong(errors, name, what, &bytes[..n], b""),
+        Err(FillError::TooLong) => notice::say_wrong(errors, name, what, &bytes, b"..."),
+        Err(FillError::NotPresent) => notice::say_wrong(errors, name, what, b"", b""),
     }
 }
 
 // Whether there is an argument at a place.
-fn is_given<V: Env>(env: &V, i: usize) -> bool {
+pub fn is_given<V: Env>(env: &V, i: usize) -> bool {
     let mut bytes = [0u8; SHOWN_BYTES];
     !matches!(env.arg(i, &mut bytes), Err(FillError::NotPresent))
 }
 
-impl Start {
-    fn fresh() -> Start {
-        let records = channel::fresh_table();
-        let table = Table { records };
-        Start {
-            table,
-            wrong: false,
-        }
+impl<V: Env, E: Write> Arguments<'_, '_, '_, V, E> {
+    fn refuse(&mut self, what: &[u8], i: usize) -> Wrong {
+        say_wrong(self.env, self.errors, self.name, what, i);
+        Wrong
     }
 
-    fn and_wrong<V: Env, E: Write>(
-        self,
-        env: &V,
-        errors: &mut E,
-        name: &[u8],
+    // What an argument gives, with a line for one that gives nothing. One that is too long to be shown whole does not.
+    fn given<T: Drop, F: Fn(&[u8]) -> Option<T> + Drop>(
+        &mut self,
+        i: usize,
         what: &[u8],
-        i: usize,
-    ) -> Start {
-        say_wrong(env, errors, name, what, i);
-        let table = self.table;
-        Start { table, wrong: true }
-    }
-
-    fn and_coarse(self, group: u8, channel: u8) -> Start {
-        let table = self.table;
-        let records = table.records;
-        let records = mark::mark_in(records, group, channel, COARSE);
-        let table = Table { records };
-        Start {
-            table,
-            wrong: self.wrong,
-        }
-    }
-
-    fn and_channel<V: Env, E: Write>(
-        self,
-        env: &V,
-        errors: &mut E,
-        name: &[u8],
-        i: usize,
-    ) -> Start {
-        let named = channel_in(env, i);
-        match named {
-            Named::Nothing => self.and_wrong(
-                env,
-                errors,
-                name,
-                b": not GROUP:CHANNEL, each 0 to 15: ",
-                i,
-            ),
-            Named::Channel(group, channel) => self.and_coarse(group, channel),
-        }
-    }
-
-    // With one more argument looked at.
-    fn and_argument<V: Env, E: Write>(
-        self,
-        env: &V,
-        errors: &mut E,
-        name: &[u8],
-        takes: Takes,
-        i: usize,
-    ) -> Start {
-        match takes {
-            Takes::Channels => self.and_channel(env, errors, name, i),
-            Takes::OneChannel => self.and_wrong(
-                env,
-                errors,
-                name,
-                b": takes GROUP and CHANNEL alone: ",
-                i,
-            ),
-            Takes::ChannelAndRange => {
-                self.and_wrong(
-                    env,
-                    errors,
-                    name,
-                    b": takes GROUP, CHANNEL and UNITS alone: ",
-                    i,
-                )
-            }
-            Takes::OneGroup => self.and_wrong(env, errors, name, b": takes GROUP alone: ", i),
-            Takes::Nothing => self.and_wrong(env, errors, name, b": takes no arguments: ", i),
-        }
-    }
-}
-
-// A fresh table in which the channel of each argument from a place on is marked.
-fn taken_from<V: Env, E: Write>(
-    env: &V,
-    errors: &mut E,
-    name: &[u8],
-    takes: Takes,
-    from: usize,
-) -> Start {
-    let mut s = Start::fresh();
-    for i in from..usize::MAX {
-        if !is_given(env, i) {
-            break;
-        }
-        s = s.and_argument(env, errors, name, takes, i);
-    }
-    s
-}
-
-// The same of all arguments. Argument 0 is the program itself.
-pub fn taken<V: Env, E: Write>(env: &V, errors: &mut E, name: &[u8], takes: Takes) -> Start {
-    taken_from(env, errors, name, takes, 1)
-}
-
-// The group or the channel that an argument names, or the units. One that is too long to be shown whole
-// names none.
-fn number_at<V: Env>(env: &V, i: usize, units: bool) -> Number {
-    let mut bytes = [0u8; SHOWN_BYTES];
-    match env.arg(i, &mut bytes) {
-        Ok(n) => {
-            if units {
-                argument::units_in(&bytes[..n])
-            } else {
-                argument::number_in(&bytes[..n])
-            }
-        }
-        Err(_) => Number::None,
-    }
-}
-
-// The same with a line for one that names none.
-fn number_named<V: Env, E: Write>(
-    env: &V,
-    errors: &mut E,
-    name: &[u8],
-    what: &[u8],
-    i: usize,
-    units: bool,
-) -> OneNumber {
-    let number = number_at(env, i, units);
-    match number {
-        Number::None => {
-            say_wrong(env, errors, name, what, i);
-            OneNumber {
-                number: 0,
-                wrong: true,
-            }
-        }
-        Number::Is(number) => OneNumber {
-            number,
-            wrong: false,
-        },
-    }
-}
-
-fn number_taken<V: Env, E: Write>(
-    env: &V,
-    errors: &mut E,
-    name: &[u8],
-    missing: &[u8],
-    what: &[u8],
-    i: usize,
-    units: bool,
-) -> OneNumber {
-    if !is_given(env, i) {
-        notice::say_wrong(errors, name, missing, b"", false);
-        return OneNumber {
-            number: 0,
-            wrong: true,
+        parse: F,
+    ) -> Result<T, Wrong>
+        requires { F.IsAlwaysCallable parse }
+    {
+        let mut bytes = [0u8; SHOWN_BYTES];
+        let found = match self.env.arg(i, &mut bytes) {
+            Ok(n) => parse(&bytes[..n]),
+            Err(_) => None,
         };
+        match found {
+            Some(found) => Ok(found),
+            None => Err(self.refuse(what, i)),
+        }
     }
-    number_named(env, errors, name, what, i, units)
-}
 
-// The first argument as a group, and the second as a channel.
-fn group_taken<V: Env, E: Write>(env: &V, errors: &mut E, name: &[u8]) -> OneNumber {
-    let missing = b": GROUP is missing";
-    number_taken(
-        env,
-        errors,
-        name,
-        missing,
-        b": not a GROUP, 0 to 15: ",
-        1,
-        false,
-    )
-}
+    // The same with another line where there is no argument.
+    fn needed<F: Fn(&[u8]) -> Option<u8> + Drop>(
+        &mut self,
+        i: usize,
+        missing: &[u8],
+        what: &[u8],
+        parse: F,
+    ) -> Result<u8, Wrong>
+        requires { F.IsAlwaysCallable parse }
+    {
+        if is_given(self.env, i) {
+            return self.given(i, what, parse);
+        }
+        notice::say_wrong(self.errors, self.name, missing, b"", b"");
+        Err(Wrong)
+    }
 
-fn channel_taken<V: Env, E: Write>(env: &V, errors: &mut E, name: &[u8]) -> OneNumber {
-    let missing = b": CHANNEL is missing";
-    number_taken(
-        env,
-        errors,
-        name,
-        missing,
-        b": not a CHANNEL, 0 to 15: ",
-        2,
-        false,
-    )
-}
+    // The first argument as a group.
+    fn group(&mut self) -> Result<u8, Wrong> {
+        self.needed(
+            1,
+            b": GROUP is missing",
+            b": not a GROUP, 0 to 15: ",
+            argument::number_in,
+        )
+    }
 
-// The third as the units of a range.
-fn units_taken<V: Env, E: Write>(env: &V, errors: &mut E, name: &[u8]) -> OneNumber {
-    let missing = b": UNITS is missing";
-    number_taken(
-        env,
-        errors,
-        name,
-        missing,
-        b": not UNITS, 0 to 127: ",
-        3,
-        true,
-    )
-}
+    // The second as a channel.
+    fn channel(&mut self) -> Result<u8, Wrong> {
+        self.needed(
+            2,
+            b": CHANNEL is missing",
+            b": not a CHANNEL, 0 to 15: ",
+            argument::number_in,
+        )
+    }
 
-fn choose(group: OneNumber, channel: OneNumber, rest: Start) -> Chosen {
-    let table = rest.table;
-    let start = Start {
-        table,
-        wrong: group.wrong | channel.wrong | rest.wrong,
-    };
-    Chosen {
-        start,
-        group: group.number,
-        channel: channel.number,
+    // The third as the units of a range.
+    fn units(&mut self) -> Result<u8, Wrong> {
+        self.needed(
+            3,
+            b": UNITS is missing",
+            b": not UNITS, 0 to 127: ",
+            |text| argument::units_in(text),
+        )
+    }
+
+    // A fresh table in which the channel of each argument is marked. Argument 0 is the program itself.
+    fn table(&mut self) -> Result<Table, Wrong> {
+        let mut records = channel::fresh_table();
+        let mut all = Ok(());
+        for i in 1..usize::MAX {
+            if !is_given(self.env, i) {
+                break;
+            }
+            let what = b": not GROUP:CHANNEL, each 0 to 15: ";
+            match self.given(i, what, argument::channel_named) {
+                Ok((group, channel)) => {
+                    let marked = mark::mark_in(records, group, channel, COARSE);
+                    records = marked;
+                }
+                Err(wrong) => all = Err(wrong),
+            }
+        }
+        all?;
+        Ok(Table { records })
+    }
+
+    // Names each argument from a place on, where no more are taken.
+    fn end(&mut self, what: &[u8], from: usize) -> Result<(), Wrong> {
+        let mut all = Ok(());
+        for i in from..usize::MAX {
+            if !is_given(self.env, i) {
+                break;
+            }
+            all = Err(self.refuse(what, i));
+        }
+        all
     }
 }
 
-// The channel that the two arguments name, by its group and its own number, and a fresh table.
-pub fn channel_chosen<V: Env, E: Write>(env: &V, errors: &mut E, name: &[u8]) -> Chosen {
-    let group = group_taken(env, errors, name);
-    let channel = channel_taken(env, errors, name);
-    choose(
-        group,
-        channel,
-        taken_from(env, errors, name, Takes::OneChannel, 3),
-    )
+// A fresh table in which the channel of each argument is marked.
+pub fn taken<V: Env, E: Write>(env: &V, errors: &mut E, name: &[u8]) -> Result<Table, Wrong> {
+    Arguments { env, errors, name }.table()
+}
+
+// Where a program takes no arguments.
+pub fn nothing_taken<V: Env, E: Write>(env: &V, errors: &mut E, name: &[u8]) -> Result<(), Wrong> {
+    Arguments { env, errors, name }.end(b": takes no arguments: ", 1)
+}
+
+// The channel that the two arguments name.
+pub fn channel_chosen<V: Env, E: Write>(
+    env: &V,
+    errors: &mut E,
+    name: &[u8],
+) -> Result<Chosen, Wrong> {
+    let mut arguments = Arguments { env, errors, name };
+    let group = arguments.group();
+    let channel = arguments.channel();
+    arguments.end(b": takes GROUP and CHANNEL alone: ", 3)?;
+    Ok(Chosen {
+        group: group?,
+        channel: channel?,
+    })
 }
 
 // The channel and the range that the three arguments name.
-pub fn range_chosen<V: Env, E: Write>(env: &V, errors: &mut E, name: &[u8]) -> ChosenRange {
-    let group = group_taken(env, errors, name);
-    let channel = channel_taken(env, errors, name);
-    let units = units_taken(env, errors, name);
-    let rest = taken_from(env, errors, name, Takes::ChannelAndRange, 4);
-    let table = rest.table;
-    let rest = Start {
-        table,
-        wrong: units.wrong | rest.wrong,
+pub fn range_chosen<V: Env, E: Write>(
+    env: &V,
+    errors: &mut E,
+    name: &[u8],
+) -> Result<ChosenRange, Wrong> {
+    let mut arguments = Arguments { env, errors, name };
+    let group = arguments.group();
+    let channel = arguments.channel();
+    let units = arguments.units();
+    arguments.end(b": takes GROUP, CHANNEL and UNITS alone: ", 4)?;
+    Ok(ChosenRange {
+        chosen: Chosen {
+            group: group?,
+            channel: channel?,
+        },
+        units: units?,
+    })
+}
+
+// The group that the only argument names, or 0 where there is none. Any further one is wrong.
+pub fn group_chosen<V: Env, E: Write>(env: &V, errors: &mut E, name: &[u8]) -> Result<u8, Wrong> {
+    let mut arguments = Arguments { env, errors, name };
+    let group = if is_given(env, 1) {
+        arguments.given(1, b": not a GROUP, 0 to 15: ", argument::number_in)
+    } else {
+        Ok(0)
     };
-    ChosenRange {
-        chosen: choose(group, channel, rest),
-        units: units.number,
-    }
-}
-
-// The group that the first argument names, or 0 where there is none.
-fn group_or_0<V: Env, E: Write>(env: &V, errors: &mut E, name: &[u8]) -> OneNumber {
-    if !is_given(env, 1) {
-        return OneNumber {
-            number: 0,
-            wrong: false,
-        };
-    }
-    number_named(env, errors, name, b": not a GROUP, 0 to 15: ", 1, false)
-}
-
-// The group that the only argument names. Any further one is wrong.
-pub fn group_chosen<V: Env, E: Write>(env: &V, errors: &mut E, name: &[u8]) -> ChosenGroup {
-    let group = group_or_0(env, errors, name);
-    let rest = taken_from(env, errors, name, Takes::OneGroup, 2);
-    ChosenGroup {
-        group: group.number,
-        wrong: group.wrong | rest.wrong,
-    }
+    arguments.end(b": takes GROUP alone: ", 2)?;
+    group
 }

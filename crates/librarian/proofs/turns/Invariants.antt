@@ -1,5 +1,0 @@
--- `librarian::turns` is safe and ends: the measure is the turns left.
-use Rattle.librarian.proofs.turns.Given as goal
-
-abbrev pub decreases-loop-more : goal.decreases-loop-more
-decreases-loop-more _ l = l.more
