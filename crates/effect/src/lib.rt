@@ -37,12 +37,8 @@ pub fn effected(record: Record, effect: Effect, after: Memory, key: u8) -> Recor
             keys: Keys::cleared(),
             ..record
         },
-        Effect::Releases => Record {
-            keys: record.keys.with_key(key, false),
-            ..record
-        },
-        Effect::Presses => Record {
-            keys: record.keys.with_key(key, true),
+        Effect::Releases | Effect::Presses => Record {
+            keys: record.keys.with_key(key, effect == Effect::Presses),
             ..record
         },
     }
