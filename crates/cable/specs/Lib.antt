@@ -2,3 +2,4 @@ pub mod State
 pub mod Hearing
 pub mod Receiver
 pub mod Put
+pub mod Form

@@ -3,6 +3,7 @@ ghost use Rattle.std.specs.Prelude.{◌≡◌, cond, [], ◌∷◌, ltb, ◌≤�
 ghost use Rattle.cable.specs.State.{idle, message_word, need, packet_of};
 ghost use Rattle.cable.specs.Hearing.{byte_in, data_in, end_in, exclusive_in, first_in, message_in, real_time_in};
 ghost use Rattle.cable.specs.Hearing.{runs_on, sending, status_in, told};
+ghost use Rattle.cable.specs.Form.{form_number};
 ghost use Rattle.cable.specs.Receiver.{cable_of, heard_of};
 
 use crate::receiving::{first_held, fresh, with_byte};
@@ -40,6 +41,15 @@ fn message_word(g: u8, b: u8, x: u8, y: u8) -> u32
         + u32::from(y)
 }
 
+// The place of a packet in its exclusive, whose numbers are 0 to 3.
+#[derive(Clone, Copy)]
+enum Form {
+    Complete,
+    Start,
+    Continue,
+    End,
+}
+
 // Nothing is sent.
 fn silent(answer: u32, read: usize, after: Receiver) -> Heard<Receiver>
     ensures { told (heard_of result) ≡ record { answer = answer; read = read; sends = []; after = cable_of after } }
@@ -69,20 +79,20 @@ fn packet(
     answer: u32,
     read: usize,
     g: u8,
-    form: u8,
+    form: Form,
     s: Receiver,
     after: Receiver,
 ) -> Heard<Receiver>
     ensures { told (heard_of result) ≡ record {
       answer = answer;
       read = read;
-      sends = packet_of g form (cable_of s);
+      sends = packet_of g (form_number form) (cable_of s);
       after = cable_of after;
     } }
 {
     let first = 0x30000000
         + u32::from(g % 16) * 0x1000000
-        + u32::from(form) * 0x100000
+        + (form as u32) * 0x100000
         + u32::from(s.count) * 0x10000
         + s.high % 0x10000;
     Heard {
@@ -115,7 +125,11 @@ fn exclusive_in(s: Receiver, g: u8, b: u8) -> Heard<Receiver>
     if s.count < SIX {
         silent(TAKEN_IN, 1, with_byte(b, s))
     } else {
-        let form = if s.begun == 0 { 1 } else { 2 };
+        let form = if s.begun == 0 {
+            Form::Start
+        } else {
+            Form::Continue
+        };
         packet(SENT, 1, g, form, s, first_held(0, EXCLUSIVE, 1, b))
     }
 }
@@ -197,11 +211,15 @@ fn status_in(g: u8, b: u8) -> Heard<Receiver>
 fn end_in(s: Receiver, g: u8, b: u8) -> Heard<Receiver>
     ensures { told (heard_of result) ≡ end_in (cable_of s) g b }
 {
-    let form = if s.begun == 0 { 0 } else { 3 };
-    if b == END_OF_EXCLUSIVE {
-        packet(SENT, 1, g, form, s, fresh(0, 0))
+    let last = if s.begun == 0 {
+        Form::Complete
     } else {
-        packet(CUT_OFF, 0, g, form, s, fresh(0, 0))
+        Form::End
+    };
+    if b == END_OF_EXCLUSIVE {
+        packet(SENT, 1, g, last, s, fresh(0, 0))
+    } else {
+        packet(CUT_OFF, 0, g, last, s, fresh(0, 0))
     }
 }
 

@@ -15,7 +15,8 @@ returns-then-left-needs c =
     let l = c.loop-at in
     let a = c.args in
     (turn a.group a.cable a.bytes.now a.room l.counts l.state l.at l.left l.invariant
-    c.loop-at-test.true (told c.hear-heard.result) c.hear-heard.ensures _ c.length_of-needs.ensures).0 c.if-left-needs.true
+    c.loop-at-test.true (told c.hear-heard.result) c.hear-heard.ensures _
+    c.length_of-needs.ensures).0 c.if-left-needs.true
 
 pub overflow_add-at : goal.overflow_add-at
 overflow_add-at c =
@@ -23,7 +24,8 @@ overflow_add-at c =
     let a = c.args in
     let fits : length a.bytes.now < 2 ^ 63 = omega (arith, c.well_formed) in
     let z = (turn a.group a.cable a.bytes.now a.room l.counts l.state l.at l.left l.invariant
-    c.loop-at-test.true (told c.hear-heard.result) c.hear-heard.ensures _ c.length_of-needs.ensures).1 c.if-left-needs.false fits in
+    c.loop-at-test.true (told c.hear-heard.result) c.hear-heard.ensures _
+    c.length_of-needs.ensures).1 c.if-left-needs.false fits in
     omega (arith, z.0.read)
 
 pub loop-at-smaller : goal.loop-at-smaller
@@ -32,7 +34,8 @@ loop-at-smaller c =
     let a = c.args in
     let fits : length a.bytes.now < 2 ^ 63 = omega (arith, c.well_formed) in
     ((turn a.group a.cable a.bytes.now a.room l.counts l.state l.at l.left l.invariant
-    c.loop-at-test.true (told c.hear-heard.result) c.hear-heard.ensures _ c.length_of-needs.ensures).1 c.if-left-needs.false fits).1
+    c.loop-at-test.true (told c.hear-heard.result) c.hear-heard.ensures _
+    c.length_of-needs.ensures).1 c.if-left-needs.false fits).1
 
 pub loop-at-preserved : goal.loop-at-preserved
 loop-at-preserved c =
@@ -41,7 +44,8 @@ loop-at-preserved c =
     let fits : length a.bytes.now < 2 ^ 63 = omega (arith, c.well_formed) in
     rw (c.one_more-more.ensures, c.from.ensures)
     ((turn a.group a.cable a.bytes.now a.room l.counts l.state l.at l.left l.invariant
-    c.loop-at-test.true (told c.hear-heard.result) c.hear-heard.ensures _ c.length_of-needs.ensures).1 c.if-left-needs.false fits).0
+    c.loop-at-test.true (told c.hear-heard.result) c.hear-heard.ensures _
+    c.length_of-needs.ensures).1 c.if-left-needs.false fits).0
 
 pub returns : goal.returns
 returns c =
