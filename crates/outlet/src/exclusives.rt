@@ -28,6 +28,7 @@ fn put_marked(test: bool, byte: u8, out: &mut [u8], at: usize)
 }
 
 // Stores the first n bytes of a payload, which has its first two in the first word.
+// Kept: one copy of n bytes in place of the six steps was proved, and took 7 hundredths longer in a run out.
 fn put_payload(n: usize, w: u32, v: u32, out: &mut [u8], at: usize)
     requires { (n ≤ 6) × (at + n ≤ length out.old) }
     ensures { out.new ≡ sets out.old at (take n (six w v)) }
