@@ -5,7 +5,7 @@ use mathlib.Core.List.{List, [], ◌∷◌}
 use native.Mathlib.Omega.{arith}
 use lib.ListN.{get_or, length}
 use Rattle.std.specs.Prelude.{None}
-use Rattle.argument.specs.Argument.{number_in, three_digits, two_digits}
+use Rattle.argument.specs.Argument.{number_in, two_digits}
 
 pub one_byte : (s : List ℕ) → length s ≡ 1 → number_in s ≡ two_digits 48 (get_or s 0 0)
 unfolding number_in

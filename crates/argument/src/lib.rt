@@ -50,7 +50,6 @@ fn three_digits(most: u8, a: u8, b: u8, c: u8) -> Option<u8>
 }
 
 // The group or the channel that an argument names.
-#[tactic(auto, using(crate::proofs::ByteLaws::one_byte, crate::proofs::ByteLaws::two_bytes, crate::proofs::ByteLaws::no_byte, crate::proofs::ByteLaws::more_bytes))]
 pub fn number_in(text: &[u8]) -> Option<u8>
     ensures { result ≡ number_in text.now }
 {

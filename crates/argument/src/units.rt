@@ -8,7 +8,6 @@ use crate::{ZERO, three_digits};
 const MOST_UNITS: u8 = 127;
 
 // The units that an argument names.
-#[tactic(auto, using(crate::proofs::UnitLaws::one_byte, crate::proofs::UnitLaws::two_bytes, crate::proofs::UnitLaws::three_bytes, crate::proofs::UnitLaws::no_byte, crate::proofs::UnitLaws::more_bytes))]
 pub fn units_in(text: &[u8]) -> Option<u8>
     ensures { result ≡ units_in text.now }
 {
