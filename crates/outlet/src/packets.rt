@@ -4,7 +4,7 @@ ghost use Rattle.ground.specs.Store.{at_start, written};
 ghost use Rattle.ump.specs.Packet.{cut, packet};
 ghost use Rattle.ump.specs.Word.{message_type};
 ghost use Rattle.fields.specs.Check.{checked_fields, good_status};
-ghost use Rattle.screen.specs.Screen.{checking, reserved};
+ghost use Rattle.screen.specs.Screen.{checking, goes_on, judged, reserved};
 ghost use Rattle.stream.specs.Answers.{not_for_cable, reserved_type};
 ghost use Rattle.stream.specs.Call.{sent_of, within};
 ghost use Rattle.stream.specs.Report.{reported, reported_call};
@@ -14,7 +14,7 @@ ghost use Rattle.outlet.specs.Sending.{call_at, call_now, onward, told_one, told
 
 use crate::exclusives::send_exclusive;
 use crate::messages::{send_system, send_voice};
-use screen::{GOES_ON, Screened};
+use screen::Refusal;
 use stream::{
     BAD_DATA, BAD_STATUS, CUT, Done, NO_ROOM, NOT_FOR_CABLE, OUT_OF_RANGE, RESERVED, SENT,
     TAKEN_IN, report, report_place,
@@ -48,40 +48,44 @@ fn other_answer(w: u32) -> u32
     }
 }
 
-// The check of a packet of ours, with the answer where nothing is bad.
-fn check(w: u32, v: u32, good: u32) -> Screened
-    ensures { result ≡ checking (good_status w) (checked_fields w v) good }
+// The check of a packet of ours.
+fn check(w: u32, v: u32) -> Result<(), Refusal>
+    ensures { result ≡ judged (checking (good_status w) (checked_fields w v) goes_on) }
 {
-    if fields::is_good_status(w) {
-        let place = fields::bad_place(w, v);
-        let answer = if place == 0 { good } else { BAD_DATA };
-        Screened { answer, place }
-    } else {
-        Screened {
+    if !fields::is_good_status(w) {
+        return Err(Refusal {
             answer: BAD_STATUS,
             place: 0,
-        }
+        });
+    }
+    match fields::bad_place(w, v) {
+        None => Ok(()),
+        Some(place) => Err(Refusal {
+            answer: BAD_DATA,
+            place,
+        }),
     }
 }
 
 // The screening of a packet, or of the empty part where none is whole.
-pub fn screen_out(group: u8, packet: &[u32]) -> Screened
-    ensures { result ≡ screen_out group packet.now }
+#[tactic(auto, unfolding(crate::specs::Outlet::screen_out))]
+pub fn screen_out(group: u8, packet: &[u32]) -> Result<(), Refusal>
+    ensures { result ≡ judged (screen_out group packet.now) }
 {
-    if packet.len() == 0 {
-        return Screened {
+    if packet.is_empty() {
+        return Err(Refusal {
             answer: CUT,
             place: 0,
-        };
+        });
     }
     let w = word_at(packet, 0);
     if is_ours(group, w) {
-        check(w, word_at(packet, 1), GOES_ON)
+        check(w, word_at(packet, 1))
     } else {
-        Screened {
+        Err(Refusal {
             answer: other_answer(w),
             place: 0,
-        }
+        })
     }
 }
 
@@ -137,10 +141,10 @@ fn told_alone(w: u32, v: u32, end: Option<usize>, n: usize) -> Done
     ensures { result ≡ told_one w v end n }
 {
     match end {
-        Some(0) => {
-            let found = check(w, v, TAKEN_IN);
-            report_place(found.answer, found.place, n, 0)
-        }
+        Some(0) => match check(w, v) {
+            Ok(()) => report(TAKEN_IN, n, 0),
+            Err(refusal) => report_place(refusal.answer, refusal.place, n, 0),
+        },
         Some(end) => report(SENT, n, end),
         None => report(NO_ROOM, 0, 0),
     }

@@ -139,7 +139,7 @@ module _ (rule : Rule) (d : Done) (p out : List ℕ) (some : eqb (length p) 0 �
   unfolding packet_down_by
   acts-not n = refuses {T = Unit {0}} found tt (act_down p) (eqb-false found.answer goes_on n)
 
-  is-refused : number ≡ refused_down → goes_down rule p ≡ false
+  pub is-refused : number ≡ refused_down → goes_down rule p ≡ false
   is-refused e =
       by_bool (goes_down rule p) (λ g. absurd (below-refused room ws (few_words p few) (rw g at e))) (λ n. n)
 

@@ -146,8 +146,10 @@ pub fn down(words: &[u32], past: Done, out: &mut [u32], rule: Rule) -> Done
     let end = read + n;
     let sent = packet_down(&words[read..end], out, to, rule);
     if sent == REFUSED {
-        let screened = screen::screen_by(rule, MIDI1_VOICE, &words[read..end]);
-        return report_place(screened.answer, screened.place, end, to);
+        return match screen::screen_by(rule, Some(MIDI1_VOICE), &words[read..end]) {
+            Ok(()) => report(SENT, end, to),
+            Err(refusal) => report_place(refusal.answer, refusal.place, end, to),
+        };
     }
     if sent == NONE_FIT {
         return report(NO_ROOM, read, to);

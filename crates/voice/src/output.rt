@@ -7,7 +7,7 @@ ghost use Rattle.voice.specs.Packet.{onward_of};
 ghost use Rattle.voice.specs.Turn.{output_after, output_of, report_after, report_of, stored_in};
 
 use lower::UpToFourWords;
-use screen::{GOES_ON, Rule, Screened};
+use screen::{Refusal, Rule};
 use stream::{Done, NO_ROOM, SENT, report, report_place};
 
 // The free words of an output of so many, from a place on.
@@ -70,11 +70,11 @@ pub(crate) fn put(out: &mut [u32], to: usize, words: UpToFourWords) -> bool
 
 // The report of a packet of n words that the screening refuses: it is read, and nothing else happens.
 // A cut packet has no words.
-pub(crate) fn refuse(past: Done, screened: Screened, n: usize) -> Done
+pub(crate) fn refuse(past: Done, refusal: Refusal, n: usize) -> Done
     requires { past.read + n < 2 ^ 64 }
-    ensures { result ≡ placing screened.answer screened.place (past.read + n) past.written }
+    ensures { result ≡ placing refusal.answer refusal.place (past.read + n) past.written }
 {
-    report_place(screened.answer, screened.place, past.read + n, past.written)
+    report_place(refusal.answer, refusal.place, past.read + n, past.written)
 }
 
 // A packet of n words sends up to four words, if there is room for them.
@@ -101,10 +101,8 @@ pub(crate) fn onward(wrong: u32, past: Done, packet: &[u32], out: &mut [u32], ru
     ensures output { out.new
         ≡ output_of past out.old (onward_of rule wrong packet.now) }
 {
-    let screened = screen::screen_by(rule, wrong, packet);
-    if screened.answer == GOES_ON {
-        send(past, packet.len(), same_words(packet), out)
-    } else {
-        refuse(past, screened, packet.len())
+    match screen::screen_by(rule, Some(wrong), packet) {
+        Ok(()) => send(past, packet.len(), same_words(packet), out),
+        Err(refusal) => refuse(past, refusal, packet.len()),
     }
 }

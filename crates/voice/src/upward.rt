@@ -14,7 +14,7 @@ use crate::output::{onward, refuse, room};
 use channel::Record;
 use effect::Effect;
 use lift::UpwardMessage;
-use screen::{GOES_ON, Rule};
+use screen::Rule;
 use stream::{Done, NO_ROOM, NOT_SOUND, SENT, TAKEN_IN, report};
 use ump::{MIDI1_VOICE, MIDI2_VOICE};
 
@@ -83,16 +83,16 @@ fn voice_up(
         (screened (screen_by rule voice2 (w ∷ [])) «record» (speak_if (known || sound «record») «record» w)) }
 {
     let memory = record.memory;
-    let screened = screen::screen_voice1(rule, w);
-    if screened.answer == GOES_ON {
-        // What a channel remembers is not asked where it is known to be sound.
-        if known || memory.is_sound() {
-            speak(past, record, w, out)
-        } else {
-            stays(record, report(NOT_SOUND, past.read, past.written))
+    match screen::screen_voice1(rule, w) {
+        Ok(()) => {
+            // What a channel remembers is not asked where it is known to be sound.
+            if known || memory.is_sound() {
+                speak(past, record, w, out)
+            } else {
+                stays(record, report(NOT_SOUND, past.read, past.written))
+            }
         }
-    } else {
-        stays(record, refuse(past, screened, 1))
+        Err(refusal) => stays(record, refuse(past, refusal, 1)),
     }
 }
 

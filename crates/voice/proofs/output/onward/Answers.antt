@@ -1,22 +1,29 @@
--- `voice::output::onward` meets its contract: the screening decides between the packet's own words and a refusal. Assumes nothing.
-use mathlib.Core.Path.{refl}
+-- `voice::output::onward`: the screening decides between the packet's own words and a refusal.
+use mathlib.Core.Path.{refl, sym, ◌∙◌}
 use Rattle.stream.specs.Answers.{sent}
 use Rattle.stream.specs.Call.{went}
+use Rattle.screen.specs.Screen.{screen_by}
+use Rattle.screen.proofs.ScreenLaws.{judged-err, judged-ok}
 use Rattle.voice.proofs.TurnLaws.{passed-comes, refused-comes, sent-comes}
 use Rattle.voice.proofs.output.onward.Goals as goal
 
-pub returns-then-screened-eq-GOES_ON : goal.returns-then-screened-eq-GOES_ON
-returns-then-screened-eq-GOES_ON c =
-    let p = c.args.packet.now in
-    let s = c.screen_by-screened in
+pub returns-in-Ok : goal.returns-in-Ok
+returns-in-Ok c =
+    let a = c.args in
+    let p = a.packet.now in
+    let s = screen_by a.rule a.wrong p in
+    let g = judged-ok s (sym c.screen_by.ensures ∙ c.in-Ok.is) in
     let z = c.send.ensures in
-    let k = passed-comes c.args.past p c.args.out.now _ _ c.args.rule c.args.wrong s.result s.ensures (went sent p tt) c.if-screened-eq-GOES_ON.true
-    (sent-comes c.args.past p c.args.out.now _ _ c.same_words.result p c.same_words.ensures c.requires.0 z.report z.output) in
+    let k = passed-comes a.past p a.out.now _ _ a.rule a.wrong s refl (went sent p tt) g
+    (sent-comes a.past p a.out.now _ _ c.same_words.result p c.same_words.ensures c.requires.0 z.report z.output) in
     record { report = k.0; output = k.1 }
 
-pub returns-else-screened-eq-GOES_ON : goal.returns-else-screened-eq-GOES_ON
-returns-else-screened-eq-GOES_ON c =
-    let p = c.args.packet.now in
-    let s = c.screen_by-screened in
-    let k = refused-comes c.args.past p c.args.out.now _ _ c.args.rule c.args.wrong s.result s.ensures (went sent p tt) c.if-screened-eq-GOES_ON.false c.refuse.ensures refl in
+pub returns-in-Err : goal.returns-in-Err
+returns-in-Err c =
+    let a = c.args in
+    let p = a.packet.now in
+    let s = screen_by a.rule a.wrong p in
+    let r = judged-err s c.in-Err.refusal (sym c.screen_by.ensures ∙ c.in-Err.is) in
+    let k = refused-comes a.past p a.out.now _ _ a.rule a.wrong s refl (went sent p tt) r.0
+    (c.refuse.ensures ∙ rw (r.1.0, r.1.1)) refl in
     record { report = k.0; output = k.1 }
