@@ -11,11 +11,10 @@ ghost use Rattle.std.specs.Prelude.{◌≤◌, length, IfOk};
 use notice::{Amount, Ending};
 pub use ports::Streams;
 use ports::{Failed, Turn, Turns};
-use screen::NEITHER_TYPE;
 use std::env::Env;
 use std::io::{Read, Write};
 use stream::NO_ROOM;
-use tally::{SORTS, one_more, sort_of};
+use tally::{SORTS, one_more, sort_found};
 use tuning::Desk;
 use ump::{Channel, Group};
 
@@ -44,9 +43,8 @@ fn counted_all(counts: [u64; SORTS], words: &[u32]) -> [u64; SORTS] {
     let mut counts = counts;
     let mut at: usize = 0;
     while at < words.len() {
-        let screened = screen::screen(NEITHER_TYPE, ump::packet_at(words, at));
-        let more = one_more(counts, sort_of(screened.answer, screened.place));
-        counts = more;
+        let found = screen::screen(None, ump::packet_at(words, at));
+        counts = one_more(counts, sort_found(found));
         at += ump::size(words[at]);
     }
     counts

@@ -1,10 +1,11 @@
 -- How often each answer came among some calls, and bad data by place (RULES 10.3 and 10.6).
-use Rattle.std.specs.Prelude.{ℕ, zero, suc, ◌+◌, ◌%◌, ◌^◌, cond, List, [], ◌∷◌, map, ◌==◌, slice_index, slice_set}
+use Rattle.std.specs.Prelude.{ℕ, zero, suc, ◌+◌, ◌%◌, ◌^◌, cond, List, [], ◌∷◌, map, ◌==◌, slice_index, slice_set, Result, Ok, Err}
 use Rattle.ump.specs.Packet.{cut, packet}
 use Rattle.ump.specs.Word.{voice2}
-use Rattle.stream.specs.Answers.{not_for_cable}
+use Rattle.stream.specs.Answers.{not_for_cable, sent}
 use Rattle.stream.specs.Call.{answer_of}
 use Rattle.stream.specs.Report.{place_told}
+use Rattle.screen.specs.declared.Refusal.{Refusal}
 use Rattle.screen.specs.Screen.{screen}
 use Rattle.voice.specs.Packet.{call_down}
 use Rattle.outlet.specs.Outlet.{screen_out}
@@ -12,6 +13,11 @@ use Rattle.outlet.specs.Outlet.{screen_out}
 -- The sort of a call: its answer, 0 to 25; and 26 to 32 are bad data at the places 1 to 7.
 abbrev pub sort_of : ℕ → ℕ → ℕ
 sort_of answer place = cond (place == 0) answer (not_for_cable + place)
+
+-- the sort of a packet by its screening: 0 where that lets it go on
+abbrev pub sort_found : Result (Unit {0}) Refusal → ℕ
+sort_found (Ok _) = sort_of sent 0
+sort_found (Err r) = sort_of r.answer r.place
 
 -- The sort of the packet that stands first in some words. Going up and out to a cable only the screening refuses, and 0
 -- stands for all else.

@@ -8,9 +8,10 @@
 mod ways;
 
 ghost use Rattle.std.specs.Prelude.{◌≡◌};
-ghost use Rattle.tally.specs.Tally.{counted, sort_of, tally_by};
+ghost use Rattle.tally.specs.Tally.{counted, sort_found, sort_of, tally_by};
 
-use stream::NOT_FOR_CABLE;
+use screen::Refusal;
+use stream::{NOT_FOR_CABLE, SENT};
 pub use ways::{Down, Out, Up, Way};
 
 // The highest of all answers, behind which bad data stand by their places.
@@ -28,6 +29,16 @@ pub fn sort_of(answer: u32, place: u32) -> u64
         u64::from(answer)
     } else {
         u64::from(LAST_ANSWER) + u64::from(place)
+    }
+}
+
+// The sort of a packet by its screening, which is 0 where that lets it go on.
+pub fn sort_found(found: Result<(), Refusal>) -> u64
+    ensures { result ≡ sort_found found }
+{
+    match found {
+        Ok(()) => sort_of(SENT, 0),
+        Err(refusal) => sort_of(refusal.answer, refusal.place),
     }
 }
 

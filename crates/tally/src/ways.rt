@@ -4,7 +4,7 @@ ghost use Rattle.ump.specs.Packet.{size};
 ghost use Rattle.tally.specs.Near.{down_near, out_near, up_near};
 ghost use Rattle.tally.specs.Tally.{sort_down, sort_out, sort_up};
 
-use crate::sort_of;
+use crate::{sort_found, sort_of};
 use screen::open_rule;
 use stream::{SENT, report};
 use ump::MIDI2_VOICE;
@@ -39,8 +39,7 @@ impl Way for Up {
 
     // The screening alone refuses.
     fn sort_at(self, words: &[u32], at: usize) -> u64 {
-        let screened = screen::screen(MIDI2_VOICE, ump::packet_at(words, at));
-        sort_of(screened.answer, screened.place)
+        sort_found(screen::screen(Some(MIDI2_VOICE), ump::packet_at(words, at)))
     }
 }
 
@@ -64,7 +63,6 @@ impl Way for Out {
 
     // The screening alone refuses here as well.
     fn sort_at(self, words: &[u32], at: usize) -> u64 {
-        let screened = outlet::screen_out(self.0, ump::packet_at(words, at));
-        sort_of(screened.answer, screened.place)
+        sort_found(outlet::screen_out(self.0, ump::packet_at(words, at)))
     }
 }
