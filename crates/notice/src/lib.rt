@@ -123,7 +123,9 @@ pub fn say_end<E: Write>(
             .with_number(written.number)
             .with(written.word);
     }
-    with_refusals(line, counts).with(ending.said()).write(errors);
+    with_refusals(line, counts)
+        .with(ending.said())
+        .write(errors);
 }
 
 // Says what is wrong with an argument, and its bytes as they came, with what stands for those that are not shown.

@@ -160,14 +160,7 @@ impl<R: Read, W: Write, E: Write> Streams<R, W, E> {
         let mut waits = false;
         let mut ended = false;
         for _ in 0..u64::MAX {
-            let got = read_more(
-                &mut self.input,
-                &mut self.errors,
-                name,
-                bytes,
-                left,
-                waits,
-            );
+            let got = read_more(&mut self.input, &mut self.errors, name, bytes, left, waits);
             let turn = program.turn(self, &bytes[..got.have])?;
             left = wire::carry(bytes, turn.read, got.have);
             waits = turn.waits;

@@ -201,9 +201,9 @@ pub judged-err : (s : Screened) (x : Refusal) → judged s ≡ Err x
 judged-err s x h = by_bool (eqb s.answer goes_on)
     (λ e. let good = sym h ∙ judged-good s e in absurd (cc good))
     (λ e. let bad = sym h ∙ judged-bad s e in
-        let answer : x.answer ≡ s.answer = cc bad in
-        let place : x.place ≡ s.place = cc bad in
-        (eqb-false s.answer goes_on e, (answer, place)))
+    let answer : x.answer ≡ s.answer = cc bad in
+    let place : x.place ≡ s.place = cc bad in
+    (eqb-false s.answer goes_on e, (answer, place)))
 
 pub judged-is_ok : (s : Screened) → is_ok (judged s) ≡ eqb s.answer goes_on
 judged-is_ok s = by_bool (eqb s.answer goes_on) (λ e. rw e) (λ e. rw e)

@@ -9,12 +9,12 @@ use mathlib.Core.List.{List, [], ◌∷◌}
 use Prim.Native.Nat.{ℕ, zero, suc, ◌+◌, ◌-◌, ◌<◌, ◌≤◌, ◌^◌}
 use native.Mathlib.Omega.{arith}
 use native.Mathlib.Nat.{add-zero}
-use lib.Dec.{eqb, leb, leb-zero, ltb}
+use lib.Dec.{eqb, leb, ltb}
 use lib.ListN.{get_or-eq_default, drop, drop_of_length-le, get_or, length, length-drop, length-take, take}
 use lib.Seq.{drop-cons, sets, sets-eq}
-use borrow.Author.Tests.{eqb-false, eqb-true, le-leb, lt-leb, ltb-false, ltb-true, ne_eqb}
+use borrow.Author.Tests.{eqb-false, eqb-true, le-leb, ltb-false, ltb-true, ne_eqb}
 use Rattle.ground.specs.Store.{written}
-use Rattle.ground.proofs.Cases.{by_bool, not-both}
+use Rattle.ground.proofs.Cases.{by_bool}
 use Rattle.ground.proofs.StoreLaws.{written_none}
 use Rattle.ump.specs.Word.{channel_of, group_of, message_type, voice1, voice2}
 use Rattle.ump.specs.Packet.{first, packet, size}

@@ -55,7 +55,7 @@ returns-in-Ok c =
     let few = next-few (drop i ws) in
     let found = screen_by a.rule voice1 (next ws a.past) in
     absurd (true≢false (sym (eq-eqb found.answer goes_on (judged-ok found (sym f ∙ c.in-Ok.is)))
-      ∙ is-refused a.rule a.past (next ws a.past) a.out.now some few (sym e.number ∙ c.if-sent-eq-REFUSED.true)))
+    ∙ is-refused a.rule a.past (next ws a.past) a.out.now some few (sym e.number ∙ c.if-sent-eq-REFUSED.true)))
 
 pub returns-in-Err : goal.returns-in-Err
 returns-in-Err c =
