@@ -167,7 +167,7 @@ fn is_for(desk: Desk, w: u32) -> bool
     ensures { result ≡ is_for desk.group desk.channel w }
 {
     (message_type(w) == MIDI2_VOICE)
-        & ((group_of(w).0 == desk.group.0) & (channel_of(w).0 == desk.channel.0))
+        & ((group_of(w) == desk.group) & (channel_of(w) == desk.channel))
 }
 
 // Hears the packet at the start of the words. One that is cut, not sound, or not of the channel changes

@@ -25,6 +25,7 @@ pub fn word_at(words: &[u32], at: usize) -> u32
 
 // The packet at a place: its own words, a part of the caller's. An empty part where no whole packet
 // is left or the place is past the end.
+// Kept: an empty part and no `Option`, since the screening is asked of it too, and answers that it is cut.
 pub fn packet_at(words: &[u32], at: usize) -> &[u32]
     ensures { result.now ≡ packet (drop at words.now) }
 {
