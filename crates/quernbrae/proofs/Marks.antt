@@ -1,6 +1,6 @@
 -- What a mark says of the table, from what `marking` says of the record that is read: `e` is what is read past the end,
 -- where no record that is named stands. Assumes nothing.
-use Rattle.std.proofs.Common.{◌≡◌, ◌∙◌, ℕ, Bool, true, false, not, List, length, get_or, set, refl, ap}
+use Rattle.std.proofs.Common.{◌≡◌, ◌∙◌, ℕ, true, false, List, length, get_or, set, refl, ap}
 use Rattle.std.proofs.lemmas.List.{get_or_default}
 use Rattle.ground.proofs.Bools.{and_left, and_right}
 use Rattle.ground.proofs.Cases.{by_bool}
@@ -43,16 +43,14 @@ module _ (t : List Record) (group channel coarse : ℕ) where
 
   -- the same of a host
   module _ (host : ℕ) (owners : List ℕ) where
-    pub host-marked : may_mark host owners (length t) group channel ≡ true → (i : ℕ) → i ≡ place_asked group channel
-        → (e : Record) → (answer : ℕ) (after : Record) → Marked (get_or t i e) coarse answer after
-        → (answer ≡ host_mark_answer host owners t group channel)
-        × (set t i after ≡ host_table_marked host owners t group channel coarse)
+    pub host-marked : may_mark host owners (length t) group channel ≡ true
+        → (mark_answer t group channel ≡ host_mark_answer host owners t group channel)
+        × (table_marked t group channel coarse ≡ host_table_marked host owners t group channel coarse)
     unfolding host_mark_answer host_table_marked
-    host-marked h i p e answer after m =
+    host-marked h =
         let n = and_left (named (length t) group channel) (owns host owners group) h in
         let o = and_right (named (length t) group channel) (owns host owners group) h in
-        let z = marked-named n i p e answer after m in
-        (z.0 ∙ rw (n, o) refl, z.1 ∙ rw (n, o) refl)
+        rw (n, o) (refl, refl)
 
     pub host-unmarked : may_mark host owners (length t) group channel ≡ false
         → (unmarked (length t) group channel ≡ host_mark_answer host owners t group channel)

@@ -10,7 +10,6 @@ use Rattle.ground.specs.Store.{at_start}
 use Rattle.ground.proofs.StoreLaws.{start-written}
 use Rattle.ump.specs.Packet.{packet}
 use Rattle.stream.specs.Call.{Call, fit, read_of, sent_of, within}
-use Rattle.stream.specs.declared.Done.{Done}
 use Rattle.stream.specs.Report.{nothing_yet, reported, reported_call}
 use Rattle.stream.specs.Run.{Ran}
 use Rattle.screen.specs.declared.Rule.{Rule}

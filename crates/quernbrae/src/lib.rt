@@ -10,7 +10,7 @@
 mod messages;
 mod sockets;
 
-ghost use Rattle.std.specs.Prelude.{◌≡◌, length};
+ghost use Rattle.std.specs.Prelude.{◌≡◌, length, true};
 ghost use Rattle.ground.specs.Store.{at_start};
 ghost use Rattle.ump.specs.Packet.{packet};
 ghost use Rattle.stream.specs.Report.{reported, reported_call};
@@ -18,7 +18,7 @@ ghost use Rattle.screen.specs.Screen.{beginners_rule};
 ghost use Rattle.channel.specs.Record.{empty};
 ghost use Rattle.question.specs.Question.{keys_asked};
 ghost use Rattle.pupil.specs.Only.{only};
-ghost use Rattle.mark.specs.Mark.{mark_answer, table_marked};
+ghost use Rattle.mark.specs.Mark.{mark_answer, named, table_marked};
 ghost use Rattle.hosts.specs.Hosts.{host_keys_asked, host_mark_answer, host_one_down, host_one_up, host_run_down, host_run_up};
 ghost use Rattle.hosts.specs.Hosts.{host_table_marked};
 ghost use Rattle.handover.specs.Handover.{give_answer, owners_after, table_given};
@@ -297,6 +297,22 @@ pub extern "C" fn quernbrae_host_keys_down(
     .keys_told(table.len(), group, channel, record)
 }
 
+// The record that a group and channel name is marked, or refused where it is not sound.
+fn mark_named(table: &mut [Record], group: u8, channel: u8, coarse: u8) -> u32
+    requires { named (length table.old) group channel ≡ true }
+    ensures told { result ≡ mark_answer table.old group channel }
+    ensures table { table.new ≡ table_marked table.old group channel coarse }
+{
+    let i = question::place_asked(group, channel);
+    match mark::marking(table[i], coarse) {
+        Some(after) => {
+            table[i] = after;
+            stream::ANSWERED
+        }
+        None => stream::NOT_SOUND,
+    }
+}
+
 // Any number but 0 marks a channel of a group coarse, and 0 takes the mark off.
 #[unsafe(no_mangle)]
 pub extern "C" fn quernbrae_mark_coarse(
@@ -310,14 +326,7 @@ pub extern "C" fn quernbrae_mark_coarse(
 {
     let n = table.len();
     if mark::is_named(n, group, channel) {
-        let i = question::place_asked(group, channel);
-        match mark::marking(table[i], coarse) {
-            Some(after) => {
-                table[i] = after;
-                stream::ANSWERED
-            }
-            None => stream::NOT_SOUND,
-        }
+        mark_named(table, group, channel, coarse)
     } else {
         mark::unnamed(n)
     }
@@ -343,14 +352,7 @@ pub extern "C" fn quernbrae_host_mark_coarse(
         owners,
     };
     if host.may_mark(n, group, channel) {
-        let i = question::place_asked(group, channel);
-        match mark::marking(table[i], coarse) {
-            Some(after) => {
-                table[i] = after;
-                stream::ANSWERED
-            }
-            None => stream::NOT_SOUND,
-        }
+        mark_named(table, group, channel, coarse)
     } else {
         hosts::unmarked(n, group, channel)
     }

@@ -13,7 +13,7 @@ use Rattle.ground.proofs.Cases.{by_bool}
 use Rattle.memory.proofs.Sound.{proved-stays-sound}
 use Rattle.screen.specs.Screen.{open_rule}
 use Rattle.channel.specs.declared.Record.{Record}
-use Rattle.channel.specs.Record.{empty, sound, whole_table}
+use Rattle.channel.specs.Record.{sound, whole_table}
 use Rattle.table.specs.Table.{SoundTable, beginners_one_up, beginners_run_up, run_by, run_up, table_by}
 use Rattle.table.specs.Job.{all_sound, asked, beginners_call, beginners_run, knows, long_run, run_told, table_step}
 use Rattle.table.proofs.KnownLaws.{known-run}

@@ -9,7 +9,7 @@ use native.Mathlib.Nat.{add-zero}
 use lib.Dec.{eqb, leb}
 use lib.ListN.{drop, get_or, length, length-drop, length-map, length-take, take}
 use lib.Seq.{drop-cons, take_all}
-use borrow.Author.Tests.{eqb-false, eqb-true, leb-true, ne_eqb}
+use borrow.Author.Tests.{eqb-false, eqb-true, ne_eqb}
 use Rattle.ground.proofs.Cases.{by_bool}
 use Rattle.ground.proofs.StoreLaws.{written_none}
 use Rattle.ump.specs.Word.{channel_of, group_of, message_type, status, voice1, voice2}
@@ -179,14 +179,6 @@ module _ (rule : Rule) (d : Done) (p out : List ℕ) (some : eqb (length p) 0 �
   sent-told r n =
       let g = is-not-refused r in
       by_bool (leb (length ws) room) (λ l. let k : number ≡ length ws = rw (g, l) in rw k (in-room g l))
-      (λ l. absurd (n (rw (g, l))))
-
-  -- a number that is neither is at most the room
-  pub few-number : (number ≡ refused_down → ⊥) → (number ≡ none_fit → ⊥) → number ≤ length out - d.written
-  few-number r n =
-      let g = is-not-refused r in
-      by_bool (leb (length ws) room) (λ l. let k : number ≡ length ws = rw (g, l) in omega
-      (arith, k, leb-true (length ws) room l))
       (λ l. absurd (n (rw (g, l))))
 
   pub output-told : output_down rule d.written out p ≡ output_of d out call

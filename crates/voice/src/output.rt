@@ -10,13 +10,6 @@ use lower::UpToFourWords;
 use screen::{Refusal, Rule};
 use stream::{Done, NO_ROOM, SENT, report, report_place};
 
-// The free words of an output of so many, from a place on.
-pub(crate) fn room(len: usize, to: usize) -> usize
-    ensures { result ≡ len - to }
-{
-    if len <= to { 0 } else { len - to }
-}
-
 // A packet's own words.
 pub(crate) fn same_words(p: &[u32]) -> UpToFourWords
     ensures { result ≡ packed p.now }
@@ -38,7 +31,7 @@ pub(crate) fn put(out: &mut [u32], to: usize, words: UpToFourWords) -> bool
     ensures output { out.new ≡ stored_in to out.old (sent_words words) }
 {
     let count = words.count;
-    if room(out.len(), to) < count {
+    if out.len().saturating_sub(to) < count {
         return false;
     }
     match count {

@@ -10,7 +10,7 @@ ghost use Rattle.voice.specs.Packet.{effect_at, packet_if, speak_if, spoken};
 ghost use Rattle.voice.specs.Turn.{next, output_of, turned};
 
 use crate::EffectAndReport;
-use crate::output::{onward, refuse, room};
+use crate::output::{onward, refuse};
 use channel::Record;
 use effect::Effect;
 use lift::UpwardMessage;
@@ -55,7 +55,7 @@ fn speak(past: Done, record: Record, w: u32, out: &mut [u32]) -> EffectAndReport
     let to = past.written;
     match message.sends {
         Some(words) => {
-            if room(out.len(), to) < 2 {
+            if out.len().saturating_sub(to) < 2 {
                 return stays(record, report(NO_ROOM, read, to));
             }
             out[to] = words.first;

@@ -1,6 +1,6 @@
 -- `quernbrae::quernbrae_down` meets its contract: it is the call down of `voice`, with nothing read or written before.
 -- Assumes nothing.
-use Rattle.std.proofs.Common.{◌≡◌, ◌∙◌}
+use Rattle.std.proofs.Common.{◌∙◌}
 use Rattle.screen.specs.Screen.{open_rule}
 use Rattle.quernbrae.proofs.Said.{down-said}
 use Rattle.quernbrae.proofs.quernbrae_down.Goals as goal

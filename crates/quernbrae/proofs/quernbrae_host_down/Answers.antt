@@ -1,6 +1,6 @@
 -- `quernbrae::quernbrae_host_down` meets its contract: it is the call down of `voice` under the host's rule. Assumes
 -- nothing.
-use Rattle.std.proofs.Common.{◌≡◌, ◌∙◌}
+use Rattle.std.proofs.Common.{◌∙◌}
 use Rattle.hosts.specs.Hosts.{host_rule}
 use Rattle.quernbrae.proofs.Said.{down-said}
 use Rattle.quernbrae.proofs.quernbrae_host_down.Goals as goal
