@@ -9,7 +9,7 @@
 ghost use Rattle.std.specs.Prelude.{◌≤◌, length, IfOk};
 
 use cable::{Cable, EXCLUSIVE};
-use exchange::{Side, pass_through};
+use exchange::{Export, Import, Socket};
 use notice::{Amount, Ending};
 pub use ports::Streams;
 use ports::{Failed, Turn, Turns};
@@ -29,45 +29,35 @@ const OUTPUT_BYTES: usize = 0x10000;
 
 // What goes on from one turn to the next, and the buffers of a turn.
 #[derive(Drop)]
-struct Socket {
-    side: Side,
-    group: u8,
-    cable: Cable,
+struct Filter<S> {
+    socket: S,
     totals: Totals,
     words: [u32; WORDS],
     text: [u8; OUTPUT_BYTES],
 }
 
-impl<R: Read, W: Write, E: Write> Turns<R, W, E> for Socket {
+impl<S: Socket + Drop, R: Read, W: Write, E: Write> Turns<R, W, E> for Filter<S> {
     // Takes what came through the socket. What it came to counts where it could be written.
     fn turn(&mut self, streams: &mut Streams<R, W, E>, bytes: &[u8]) -> Result<Turn, Failed>
         ensures { IfOk result (λ turn. turn.read ≤ length bytes.now) }
     {
-        let done = pass_through(
-            self.side,
-            self.group,
-            self.cable,
-            self.totals,
-            bytes,
-            &mut self.words,
-            &mut self.text,
-        );
-        self.cable = done.cable;
-        streams.write(b"standard output", &self.text, done.bytes)?;
-        self.totals = done.totals;
+        let passed = self
+            .socket
+            .pass_through(bytes, &mut self.words, &mut self.text);
+        streams.write(b"standard output", &self.text, passed.bytes)?;
+        let done = passed.counted.ran;
+        self.totals = self.totals.and(done, passed.counted.counts);
         Ok(Turn {
-            read: done.read,
+            read: passed.read,
             waits: done.answer == NO_ROOM,
         })
     }
 }
 
-impl Socket {
-    fn new(side: Side, group: u8) -> Socket {
-        Socket {
-            side,
-            group,
-            cable: cable::idle(),
+impl<S: Socket + Drop> Filter<S> {
+    fn new(socket: S) -> Filter<S> {
+        Filter {
+            socket,
             totals: Totals::zero(),
             words: [0; WORDS],
             text: [0; OUTPUT_BYTES],
@@ -119,12 +109,13 @@ pub fn import<V: Env, R: Read, W: Write, E: Write>(env: &V, streams: &mut Stream
     let Ok(group) = start::group_chosen(env, &mut streams.errors, b"import") else {
         return;
     };
-    let mut socket = Socket::new(Side::Import, group);
-    let ending = match socket.run(streams) {
-        Ok(_) => cable_ending(socket.cable),
+    let cable = cable::idle();
+    let mut filter = Filter::new(Import { group, cable });
+    let ending = match filter.run(streams) {
+        Ok(_) => cable_ending(filter.socket.cable),
         Err(_) => Ending::Whole,
     };
-    socket.say(&mut streams.errors, b"import", b" bytes", b" words", ending);
+    filter.say(&mut streams.errors, b"import", b" bytes", b" words", ending);
 }
 
 // The packets of standard input that are of the group become bytes for a cable.
@@ -132,10 +123,10 @@ pub fn export<V: Env, R: Read, W: Write, E: Write>(env: &V, streams: &mut Stream
     let Ok(group) = start::group_chosen(env, &mut streams.errors, b"export") else {
         return;
     };
-    let mut socket = Socket::new(Side::Export, group);
-    let ending = match socket.run(streams) {
+    let mut filter = Filter::new(Export { group });
+    let ending = match filter.run(streams) {
         Ok(1..) => Ending::CutPacket,
         _ => Ending::Whole,
     };
-    socket.say(&mut streams.errors, b"export", b" words", b" bytes", ending);
+    filter.say(&mut streams.errors, b"export", b" words", b" bytes", ending);
 }

@@ -16,24 +16,11 @@ ghost use Rattle.outlet.specs.Outlet.{run_out};
 ghost use Rattle.cableflow.specs.Answers.{answers_in, answers_of};
 
 use cable::{Cable, Words, hear, is_sound};
+use flow::Counted;
 use inlet::{Imported, run_import};
 use outlet::run_export;
 use stream::Done;
 use tally::{Out, SORTS, one_more, tally_of};
-
-// An import: its report, with the cable after it, and how often each answer came.
-#[derive(Clone, Copy)]
-pub struct ImportedAndCounts {
-    pub imported: Imported,
-    pub counts: [u64; SORTS],
-}
-
-// An export: its report, and how often each sort of answer came.
-#[derive(Clone, Copy)]
-pub struct ExportedAndCounts {
-    pub done: Done,
-    pub counts: [u64; SORTS],
-}
 
 // How many words a byte sends.
 fn length_of(words: Words) -> usize
@@ -72,6 +59,7 @@ fn counts_in(cable: Cable, group: u8, bytes: &[u8], room: usize) -> [u64; SORTS]
 }
 
 // The same of any group and cable. Where one of them is refused, no call was made.
+// Kept: the run asked both before, and its answer would tell, but only with a law that no byte is answered so.
 fn counts_of(cable: Cable, group: u8, bytes: &[u8], room: usize) -> [u64; SORTS]
     ensures { result ≡ tally (answers_of group room cable bytes.now) }
 {
@@ -86,8 +74,8 @@ fn counts_of(cable: Cable, group: u8, bytes: &[u8], room: usize) -> [u64; SORTS]
 }
 
 // The bytes of a cable into packets of a group, until a packet finds no room.
-pub fn import_some(cable: Cable, group: u8, bytes: &[u8], out: &mut [u32]) -> ImportedAndCounts
-    ensures report { result.imported
+pub fn import_some(cable: Cable, group: u8, bytes: &[u8], out: &mut [u32]) -> Counted<Imported>
+    ensures report { result.ran
         ≡ reported (run_in group (length out.old) cable bytes.now) }
     ensures counts { result.counts
         ≡ tally (answers_of group (length out.old) cable bytes.now) }
@@ -95,21 +83,21 @@ pub fn import_some(cable: Cable, group: u8, bytes: &[u8], out: &mut [u32]) -> Im
         (run_in group (length out.old) cable bytes.now).sends out.old }
 {
     let room = out.len();
-    let imported = run_import(cable, group, bytes, out);
+    let ran = run_import(cable, group, bytes, out);
     let counts = counts_of(cable, group, bytes, room);
-    ImportedAndCounts { imported, counts }
+    Counted { ran, counts }
 }
 
 // The packets of a group into bytes for its cable, until one stops the run.
-pub fn export_some(group: u8, words: &[u32], out: &mut [u8]) -> ExportedAndCounts
-    ensures report { result.done
+pub fn export_some(group: u8, words: &[u32], out: &mut [u8]) -> Counted<Done>
+    ensures report { result.ran
         ≡ Report.reported (run_out group (length out.old) words.now) }
-    ensures counts { result.counts ≡ tally_out group (take result.done.read words.now) }
+    ensures counts { result.counts ≡ tally_out group (take result.ran.read words.now) }
     ensures output { out.new ≡ at_start
         (run_out group (length out.old) words.now).sends out.old }
 {
-    let done = run_export(group, words, out);
-    let read = done.read;
+    let ran = run_export(group, words, out);
+    let read = ran.read;
     let counts = tally_of(Out(group), &words[..read]);
-    ExportedAndCounts { done, counts }
+    Counted { ran, counts }
 }

@@ -8,5 +8,5 @@ use Rattle.cableflow.proofs.export_some.Goals as goal
 pub slice_bounds-tally_of-end : goal.slice_bounds-tally_of-end
 slice_bounds-tally_of-end c =
     let ws = c.args.words.now in
-    let r = c.run_export-done in
+    let r = c.run_export-ran in
     sym (length-take-le r.result.read ws (export-reads _ _ ws r.result r.ensures.report))
