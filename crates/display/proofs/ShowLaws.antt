@@ -9,6 +9,8 @@ use lib.Dec.{leb, leb-zero}
 use lib.ListN.{length, length-append}
 use lib.Seq.{sets-eq}
 use borrow.Author.Tests.{eq-eqb, leb-true, ne_eqb}
+use Rattle.std.proofs.Common.{Option, None, Some, unwrap_or}
+use Rattle.std.proofs.lemmas.Option.{none-some}
 use Rattle.ground.specs.Store.{written}
 use Rattle.ground.proofs.StoreLaws.{written_none}
 use Rattle.stream.specs.declared.Done.{Done}
@@ -16,7 +18,7 @@ use Rattle.stream.specs.Answers.{no_room, sent, stops_run}
 use Rattle.stream.specs.Call.{Call, fit, left_of, refused, sent_of, stopped, went}
 use Rattle.stream.specs.Report.{counting, further, placing}
 use Rattle.stream.proofs.CallLaws.{refusal, refused-fits}
-use Rattle.text.specs.Lines.{decimal, place_after, with_row}
+use Rattle.text.specs.Lines.{decimal, place_if_put, with_row}
 use Rattle.screen.specs.Screen.{Screened}
 use Rattle.screen.specs.Screen.{goes_on, neither_type, open_rule, screen, screened}
 use Rattle.screen.proofs.ScreenLaws.{cut-only, screen-place}
@@ -84,29 +86,35 @@ module _ (units : ℕ) (past : Done) (d : Desk) (p text : List ℕ) where
         rw (acts [] (rw s), leb-zero room) (rw (add-zero to), sym (written_none to text))
 
     -- with its line, where there is room for it
-    pub at-line : same_below d e units 128 ≡ false → (end : ℕ) (after : List ℕ)
-        → (end ≡ place_after text to (line_of e units)) × (after ≡ with_row text to (line_of e units))
-        → (end ≡ to → At (record { desk = d; done = counting no_room past.read to }) after)
-        × ((end ≡ to → ⊥) → At (record { desk = e; done = counting sent (past.read + length p) end }) after)
+    pub at-line : same_below d e units 128 ≡ false → (end : Option ℕ) (after : List ℕ)
+        → (end ≡ place_if_put text to (line_of e units)) × (after ≡ with_row text to (line_of e units))
+        → (end ≡ None → At (record { desk = d; done = counting no_room past.read to }) after)
+        × ((k : ℕ) → end ≡ Some k → At (record { desk = e; done = counting sent (past.read + length p) k }) after)
     at-line s end after h = rw (acts l (rw s)) (go (leb (length l) room) refl h)
       where
         l : List ℕ
         l = line_of e units
 
-        go : (b : Bool) → leb (length l) room ≡ b → (end ≡ cond b (to + length l) to) × (after ≡ with_row text to l)
-            → (end ≡ to → Comes (cond b (went sent l (room - length l, e)) (stopped no_room)) (record { desk = d; done = counting no_room past.read to }) after)
-            × ((end ≡ to → ⊥) → Comes (cond b (went sent l (room - length l, e)) (stopped no_room)) (record { desk = e; done = counting sent (past.read + length p) end }) after)
+        c : Bool → Call (ℕ × Desk)
+        c b = cond b (went sent l (room - length l, e)) (stopped no_room)
+
+        go : (b : Bool) → leb (length l) room ≡ b
+            → (end ≡ cond b (Some (to + length l)) None) × (after ≡ with_row text to l)
+            → (end ≡ None → Comes (c b) (record { desk = d; done = counting no_room past.read to }) after)
+            × ((k : ℕ) → end ≡ Some k
+            → Comes (c b) (record { desk = e; done = counting sent (past.read + length p) k }) after)
         go true b m =
             let f = leb-true (length l) room b in
             let some = line-some e units in
-            let k = rw b at m.1 in (
-              λ z. absurd (omega (arith, m.0, z, some)),
-              λ z. (rw m.0, k ∙ sets-eq l text to (omega (arith, f, some))),
+            let q = rw b at m.1 in (
+              λ z. absurd (none-some _ (sym z ∙ m.0)),
+              λ k z. let w : k ≡ to + length l = ap (λ (o : Option ℕ). unwrap_or o 0) (sym z ∙ m.0) in
+                  (rw w, q ∙ sets-eq l text to (omega (arith, f, some))),
             )
         go false b m =
-            let k = rw b at m.1 in (
-              λ z. (rw (add-zero past.read, add-zero to), k ∙ sym (written_none to text)),
-              λ z. absurd (z m.0),
+            let q = rw b at m.1 in (
+              λ z. (rw (add-zero past.read, add-zero to), q ∙ sym (written_none to text)),
+              λ k z. absurd (none-some _ (sym m.0 ∙ z)),
             )
 
 -- what a call leaves is the same, whatever room there is beside the desk

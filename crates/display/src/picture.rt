@@ -1,7 +1,7 @@
 // A line: how many notes sound, and each with its base and its pitch.
 ghost use Rattle.std.specs.Prelude.{◌≡◌, ◌+◌, ◌≤◌, nat_abs, length};
 ghost use Rattle.std.proofs.lemmas.List.Edits.{sets};
-ghost use Rattle.text.specs.Lines.{place_after, with_row};
+ghost use Rattle.text.specs.Lines.{place_if_put, with_row};
 ghost use Rattle.pitch.specs.Dyadic.{times2};
 ghost use Rattle.pitch.specs.Pitch.{float_of};
 ghost use Rattle.display.specs.Line.{Parts, count_below, field_from, field_of, fields_below, line_of};
@@ -34,10 +34,10 @@ fn put_pitch(p: f64, row: &mut [u8], at: usize) -> usize
 {
     let size = size_of(p);
     if p < 0.0 {
-        let next = text::row(b"-", row, at);
-        figures::exact(size, row, next)
+        let next = text::row(b"-", row, at).unwrap();
+        figures::exact(size, row, next).unwrap()
     } else {
-        figures::exact(size, row, at)
+        figures::exact(size, row, at).unwrap()
     }
 }
 
@@ -47,9 +47,9 @@ fn put_field(note: u8, name: &[u8], p: f64, row: &mut [u8], at: usize) -> usize
     ensures place { result ≡ at + length (field_of note name.now p) }
     ensures text { row.new ≡ sets row.old at (field_of note name.now p) }
 {
-    let first = text::row(b" ", row, at);
-    let second = text::number(note as u64, row, first);
-    let third = text::row(name, row, second);
+    let first = text::row(b" ", row, at).unwrap();
+    let second = text::number(note as u64, row, first).unwrap();
+    let third = text::row(name, row, second).unwrap();
     put_pitch(p, row, third)
 }
 
@@ -107,16 +107,16 @@ fn put_line(desk: Desk, units: u32, row: &mut [u8]) -> usize
     ensures text { row.new ≡ sets row.old 0 (line_of desk units) }
     ensures few { result ≤ 8192 }
 {
-    let fields = text::number(count_notes(desk, units) as u64, row, 0);
+    let fields = text::number(count_notes(desk, units) as u64, row, 0).unwrap();
     let end = put_notes(desk, units, row, fields);
     row[end] = b'\n';
     end + 1
 }
 
 // Writes the line of a desk, with a range of so many units, from a place on and answers the place after
-// it, or, where it does not fit, writes nothing and answers the place.
-pub fn line(desk: Desk, units: u32, out: &mut [u8], to: usize) -> usize
-    ensures place { result ≡ place_after out.old to (line_of desk units) }
+// it. Where it does not fit, it writes nothing and answers None.
+pub fn line(desk: Desk, units: u32, out: &mut [u8], to: usize) -> Option<usize>
+    ensures place { result ≡ place_if_put out.old to (line_of desk units) }
     ensures text { out.new ≡ with_row out.old to (line_of desk units) }
 {
     // Kept: memory is fixed here, so the line is made in a buffer that has room for the longest.

@@ -34,11 +34,10 @@ fn show_next(words: &[u32], past: Done, desk: Desk, units: u32, text: &mut [u8])
                 let done = report(SENT, next, to);
                 return DeskAndReport { desk: after, done };
             }
-            let end = line(after, units, text, to);
-            if end == to {
+            let Some(end) = line(after, units, text, to) else {
                 let done = report(NO_ROOM, read, to);
                 return DeskAndReport { desk, done };
-            }
+            };
             let done = report(SENT, next, end);
             DeskAndReport { desk: after, done }
         }

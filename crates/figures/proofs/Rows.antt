@@ -5,8 +5,10 @@ use mathlib.Core.List.{List, [], ◌∷◌, ◌++◌}
 use native.Mathlib.Omega.{arith}
 use lib.ListN.{drop, length, length-append, set, take}
 use lib.Seq.{length-sets, sets, sets-eq, take_at}
+use Rattle.std.proofs.Common.{Option, Some, is_some, true, unwrap_or}
 use Rattle.ground.proofs.Stores.{sets-append}
-use Rattle.text.proofs.RowLaws.{Put, row_fits}
+use Rattle.text.specs.Lines.{place_if_put}
+use Rattle.text.proofs.RowLaws.{Put, has_place, row_fits}
 
 module _ (l₀ : List ℕ) (to : ℕ) where
   pub record Row (xs l : List ℕ) (at : ℕ) : Type 0 where
@@ -29,11 +31,16 @@ module _ (l₀ : List ℕ) (to : ℕ) where
           is = e.1 ∙ rw (r.is, r.place) (sym (sets-append l₀ to xs ys));
         }
 
-    pub and-put : (ys : List ℕ) (end : ℕ) (after : List ℕ) → Put l at ys end after → to + length xs + length ys ≤ length l₀
+    pub and-put : (ys : List ℕ) (end : ℕ) (after : List ℕ) → Put l at ys (Some end) after
+        → to + length xs + length ys ≤ length l₀
         → Row (xs ++ ys) after end
     and-put ys end after e h =
         let f = row_fits l at ys (omega (arith, r.place, row-long)) in
-        and-stored ys end after (e.0 ∙ sym f.0, e.1 ∙ sym f.1)
+        and-stored ys end after (ap (λ (o : Option ℕ). unwrap_or o 0) (e.0 ∙ sym f.0), e.1 ∙ sym f.1)
+
+    pub and-fits : (ys : List ℕ) (end : Option ℕ) → end ≡ place_if_put l at ys → to + length xs + length ys ≤ length l₀
+        → is_some end ≡ true
+    and-fits ys end e h = has_place l at ys end e (omega (arith, r.place, row-long))
 
     pub and_byte : (b : ℕ) → Row (xs ++ (b ∷ [])) (set l at b) (at + 1)
     and_byte b = and-stored (b ∷ []) (at + 1) (set l at b) (refl, refl)

@@ -7,7 +7,7 @@
 
 ghost use Rattle.std.specs.Prelude.{◌≡◌, ◌+◌, ◌<◌, ◌≤◌, ◌^◌, length};
 ghost use Rattle.std.proofs.lemmas.List.Edits.{sets};
-ghost use Rattle.text.specs.Lines.{place_after, with_row};
+ghost use Rattle.text.specs.Lines.{place_if_put, with_row};
 ghost use Rattle.figures.specs.Figures.{Exactly, exact_decimal, fraction_digits};
 
 // How many parts of 2 to the -31 are a whole.
@@ -45,7 +45,7 @@ fn put_exact(size: u64, row: &mut [u8]) -> usize
     ensures text { row.new ≡ sets row.old 0 (exact_decimal size) }
     ensures few { result ≤ 52 }
 {
-    let point = text::number(size / UNIT, row, 0);
+    let point = text::number(size / UNIT, row, 0).unwrap();
     let rest = size % UNIT;
     if rest == 0 {
         return point;
@@ -54,10 +54,10 @@ fn put_exact(size: u64, row: &mut [u8]) -> usize
     put_digits(rest, row, point + 1)
 }
 
-// Writes so many parts of 2 to the -31 in decimal from a place on and answers the place after it, or,
-// where it does not fit, writes nothing and answers the place.
-pub fn exact(size: u64, out: &mut [u8], to: usize) -> usize
-    ensures place { result ≡ place_after out.old to (exact_decimal size) }
+// Writes so many parts of 2 to the -31 in decimal from a place on and answers the place after it. Where it
+// does not fit, it writes nothing and answers None.
+pub fn exact(size: u64, out: &mut [u8], to: usize) -> Option<usize>
+    ensures place { result ≡ place_if_put out.old to (exact_decimal size) }
     ensures text { out.new ≡ with_row out.old to (exact_decimal size) }
 {
     // Kept: memory is fixed here, so the row is made in a buffer that has room for the longest.

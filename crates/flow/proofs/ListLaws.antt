@@ -10,6 +10,8 @@ use lib.Dec.{leb}
 use lib.ListN.{drop, get_or, length, length-append, replicate, take}
 use lib.Seq.{sets-eq, take_at}
 use borrow.Author.Tests.{le-leb, leb-true}
+use Rattle.std.proofs.Common.{Option, None, Some, unwrap_or}
+use Rattle.std.proofs.lemmas.Option.{none-some}
 use Rattle.ground.proofs.StoreLaws.{written_none}
 use Rattle.ump.specs.Packet.{packet, size}
 use Rattle.ump.proofs.PacketLaws.{at_none, packet-four, packet-near}
@@ -28,7 +30,7 @@ use Rattle.voice.specs.declared.EffectAndReport.{EffectAndReport}
 use Rattle.voice.specs.Packet.{call_by, effect_at, packet_if, packet_up}
 use Rattle.voice.specs.Turn.{next, output_of, turned}
 use Rattle.voice.proofs.PacketLaws.{effect-at, few-up}
-use Rattle.text.specs.Lines.{line_of, place_after, with_row}
+use Rattle.text.specs.Lines.{line_of, place_if_put, with_row}
 use Rattle.text.proofs.LineLaws.{line-length}
 use Rattle.table.specs.Table.{stored, table_up}
 use Rattle.table.proofs.TableLaws.{place_at, table_at, table-inside, table-near}
@@ -51,10 +53,10 @@ module _ (d : Done) (p text : List ℕ) (r : Record) (x : AfterAndReport Record)
   Told n = record { after = x.after; done = placing x.done.answer x.done.place x.done.read n }
 
   -- what is then told: no room for the line, or the place after it
-  abbrev pub Lined : Call Record → ℕ → List ℕ → Type 0
+  abbrev pub Lined : Call Record → Option ℕ → List ℕ → Type 0
   Lined c end text' =
-      (end ≡ d.written → Lists c (record { after = r; done = counting no_room d.read d.written }) text')
-      × ((end ≡ d.written → ⊥) → Lists c (Told end) text')
+      (end ≡ None → Lists c (record { after = r; done = counting no_room d.read d.written }) text')
+      × ((k : ℕ) → end ≡ Some k → Lists c (Told k) text')
 
   -- a call that goes on: its words stand in the four
   went-four : (a : ℕ) (ws : List ℕ) (v : Record) → length ws ≤ 4 → Calls (went a ws v)
@@ -84,10 +86,10 @@ module _ (d : Done) (p text : List ℕ) (r : Record) (x : AfterAndReport Record)
       absurd (let y : ◌≡◌ {A = ℕ} 0 1 = cc q in omega arith)
 
   -- a call that goes on has its line, where there is room for it
-  pub line-some : (c : Call Record) (end : ℕ) (text' : List ℕ) → length (sent_of c) ≤ 4 → Calls c
+  pub line-some : (c : Call Record) (end : Option ℕ) (text' : List ℕ) → length (sent_of c) ≤ 4 → Calls c
       → (x.done.read ≡ d.read → ⊥)
       → let row = line_of x.done.answer (x.done.read - d.read) x.done.place (take x.done.written four) in
-      (end ≡ place_after text d.written row) × (text' ≡ with_row text d.written row)
+      (end ≡ place_if_put text d.written row) × (text' ≡ with_row text d.written row)
       → Lined c end text'
   line-some (stopped a) end text' f e h l =
       absurd (h (ap (λ (y : AfterAndReport Record). y.done.read) e.0 ∙ add-zero d.read))
@@ -107,20 +109,23 @@ module _ (d : Done) (p text : List ℕ) (r : Record) (x : AfterAndReport Record)
       room = length text - to
 
       go : (b : Bool) → leb (length line) room ≡ b
-          → (end ≡ cond b (to + length line) to) × (text' ≡ with_row text to line)
-          → (end ≡ to → Lists (went a ws v) (record { after = r; done = counting no_room d.read to }) text')
-          × ((end ≡ to → ⊥) → Lists (went a ws v)
-          (record { after = v; done = placing a (place_told a p) (d.read + length p) end }) text')
+          → (end ≡ cond b (Some (to + length line)) None) × (text' ≡ with_row text to line)
+          → (end ≡ None → Lists (went a ws v) (record { after = r; done = counting no_room d.read to }) text')
+          × ((k : ℕ) → end ≡ Some k → Lists (went a ws v)
+          (record { after = v; done = placing a (place_told a p) (d.read + length p) k }) text')
       go true b m =
           let h = leb-true (length line) room b in
           let q = line-length a (length p) (place_told a p) ws in
           let k = rw b at m.1 in (
-            λ z. absurd (omega (arith, m.0, z, q)),
-            λ z. rw b (rw m.0, k ∙ sets-eq line text to (omega (arith, h, q))),
+            λ z. absurd (none-some _ (sym z ∙ m.0)),
+            λ n z. let w : n ≡ to + length line = ap (λ (o : Option ℕ). unwrap_or o 0) (sym z ∙ m.0) in
+                rw b (rw w, k ∙ sets-eq line text to (omega (arith, h, q))),
           )
       go false b m =
-          let k = rw b at m.1 in
-          (λ z. rw b (rw (add-zero d.read, add-zero to), k ∙ sym (written_none to text)), λ z. absurd (z m.0))
+          let k = rw b at m.1 in (
+            λ z. rw b (rw (add-zero d.read, add-zero to), k ∙ sym (written_none to text)),
+            λ n z. absurd (none-some _ (sym m.0 ∙ z)),
+          )
 
 -- a call with the record that has its effect
 pub call-made : (d : Done) (ws four : List ℕ) (r : Record) (x : EffectAndReport) (a : Record)

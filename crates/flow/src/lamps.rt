@@ -26,7 +26,8 @@ pub fn panel(table: Table, text: &mut [u8]) -> usize
     for i in 0..RECORDS {
         let group = (i / CHANNELS) as u8;
         let channel = (i % CHANNELS) as u8;
-        written = text::lamps(group, channel, table.records[i].keys, text, written);
+        let end = text::lamps(group, channel, table.records[i].keys, text, written);
+        written = end.unwrap_or(written);
     }
     written
 }

@@ -68,21 +68,20 @@ fn list_one(words: &[u32], past: Done, record: Record, text: &mut [u8]) -> After
         return told(turned, to);
     }
     let n = done.written;
-    let end = text::line(
+    let Some(end) = text::line(
         done.answer,
         done.read - read,
         done.place,
         &four[..n],
         text,
         to,
-    );
-    if end == to {
+    ) else {
         let done = report(NO_ROOM, read, to);
         return AfterAndReport {
             after: record,
             done,
         };
-    }
+    };
     told(turned, end)
 }
 

@@ -11,6 +11,7 @@ use lib.Dec.{eqb, ltb}
 use lib.ListN.{drop, length, length-append, length-drop, take}
 use lib.Seq.{length-take-le, sets-eq, take_all}
 use borrow.Author.Tests.{eq-eqb, le-leb, ltb-false, ne_eqb}
+use Rattle.std.proofs.Common.{Option, Some, is_some, unwrap_or}
 use Rattle.ground.specs.Store.{written}
 use Rattle.ground.proofs.Cases.{choose}
 use Rattle.ground.proofs.StoreLaws.{written_none}
@@ -32,7 +33,8 @@ use Rattle.chains.proofs.RunLaws.{buffer-near, chain-near, report-near}
 use Rattle.chains.proofs.CollectLaws.{buffer-same, chains-same}
 use Rattle.chains.proofs.WithinLaws.{reads, reads-within, stands-within}
 use Rattle.tally.specs.Tally.{counted, sort_of}
-use Rattle.text.specs.Lines.{place_after, with_row}
+use Rattle.text.specs.Lines.{place_if_put, with_row}
+use Rattle.text.proofs.RowLaws.{has_place}
 use Rattle.gather.specs.Gather.{Held, collected_at, gather, gathered_after, gathering, held, line_after}
 use Rattle.gather.specs.Gather.{line_at, longest}
 use Rattle.gather.proofs.LineLaws.{line-short}
@@ -166,13 +168,24 @@ module _ (h : Held) (s text : List ℕ) (d : Done) where
         sym (written_none d.written text),
       )
 
+  -- any line has room where it was asked for
+  line-fits : ltb free (longest (length h.buffer)) ≡ false → d.written + length (line_at h s) ≤ length text
+  line-fits e =
+      let room : longest (length h.buffer) ≤ free = ltb-false free (longest (length h.buffer)) e in
+      omega (arith, room, line-short h s)
+
+  pub line-placed : (r : Collected) (b' : List ℕ) (end : Option ℕ) → r ≡ collected_at h s
+      → b' ≡ buffer_of h.chains h.buffer s → ltb free (longest (length h.buffer)) ≡ false
+      → end ≡ place_if_put text d.written (line_after h.chains r b') → is_some end ≡ true
+  line-placed r b' end er eb e q = has_place text d.written (line_at h s) end (rw (er, eb) at q) (line-fits e)
+
   -- the line of the call that was made
   pub at_one : (r : Collected) (cs' : List Chain) (b' counts' text' : List ℕ) (end : ℕ) (done : Done)
       → r ≡ collected_at h s
       → cs' ≡ chains_of h.chains h.buffer s
       → b' ≡ buffer_of h.chains h.buffer s → ltb free (longest (length h.buffer)) ≡ false
       → (r.read ≡ 0 → ⊥)
-      → (end ≡ place_after text d.written (line_after h.chains r b'))
+      → (Some end ≡ place_if_put text d.written (line_after h.chains r b'))
       × (text' ≡ with_row text d.written (line_after h.chains r b'))
       → counts' ≡ counted h.counts (sort_of r.answer r.place)
       → done ≡ counting r.answer (d.read + r.read) end
@@ -181,18 +194,17 @@ module _ (h : Held) (s text : List ℕ) (d : Done) where
   at_one r cs' b' counts' text' end done er es eb e n l ec ed =
       let k = reads (chain_at (chain_of s) h.chains) (share h.buffer) s in
       let m : length (packet s) ≡ 0 → ⊥ = λ z. n (ap (λ (x : Collected). x.read) er ∙ k ∙ z) in
-      let short : length (line_at h s) ≤ free =
-      omega (arith, ltb-false free (longest (length h.buffer)) e, line-short h s) in
-      let some : 16 ≤ free = omega (arith, ltb-false free (longest (length h.buffer)) e) in
-      let q : (end ≡ place_after text d.written (line_at h s)) × (text' ≡ with_row text d.written (line_at h s)) =
+      let fit = line-fits e in
+      let q : (Some end ≡ place_if_put text d.written (line_at h s)) × (text' ≡ with_row text d.written (line_at h s)) =
       rw (er, eb) at l in
-      let y = rw (le-leb (length (line_at h s)) free short) at q in
+      let y = rw (le-leb (length (line_at h s)) free (omega (arith, fit))) at q in
       rw (e, ne_eqb (length (packet s)) 0 m) (
         ed ∙ ap (λ (x : Collected). counting x.answer (d.read + x.read) end) er
             ∙ ap (λ (n : ℕ). counting (collected_at h s).answer (d.read + n) end) k
-            ∙ ap (λ (n : ℕ). counting (collected_at h s).answer (d.read + length (packet s)) n) y.0,
+            ∙ ap (λ (n : ℕ). counting (collected_at h s).answer (d.read + length (packet s)) n)
+            (ap (λ (o : Option ℕ). unwrap_or o 0) y.0),
         rw (ec, es, er, eb),
-        y.1 ∙ sets-eq (line_at h s) text d.written (omega (arith, short, some)),
+        y.1 ∙ sets-eq (line_at h s) text d.written (omega (arith, fit)),
       )
 
 -- a run reads no more words than there are

@@ -12,7 +12,7 @@ ghost use Rattle.ump.specs.Packet.{packet};
 ghost use Rattle.stream.specs.Answers.{sent};
 ghost use Rattle.stream.specs.Call.{left_of, sent_of};
 ghost use Rattle.stream.specs.Report.{reported};
-ghost use Rattle.text.specs.Lines.{place_after, with_row};
+ghost use Rattle.text.specs.Lines.{place_if_put, with_row};
 ghost use Rattle.chains.specs.Collect.{buffer_of, chains_of, report_of};
 ghost use Rattle.chains.specs.Run.{drops, open_at};
 ghost use Rattle.gather.specs.Gather.{gather_at, gathered_after, gathering, held_in, line_by, longest};
@@ -69,11 +69,12 @@ fn collect(chains: &mut [Chain; CHAINS], buffer: &mut [u8], words: &[u32]) -> Tu
     }
 }
 
-// Writes the line of a call, where it has one, and answers the place after it.
-fn put_line(turn: Turn, buffer: &[u8], text: &mut [u8], to: usize) -> usize
+// Writes the line of a call, where it has one, and answers the place after it. Where it does not fit, it writes
+// nothing and answers None.
+fn put_line(turn: Turn, buffer: &[u8], text: &mut [u8], to: usize) -> Option<usize>
     requires { turn.report.answer ≡ sent
         → turn.report.start + turn.report.length ≤ length buffer.now }
-    ensures place { result ≡ place_after text.old to (line_by turn.dropped turn.report buffer.now) }
+    ensures place { result ≡ place_if_put text.old to (line_by turn.dropped turn.report buffer.now) }
     ensures text { text.new ≡ with_row text.old to (line_by turn.dropped turn.report buffer.now) }
 {
     let one = turn.report;
@@ -84,7 +85,7 @@ fn put_line(turn: Turn, buffer: &[u8], text: &mut [u8], to: usize) -> usize
     if turn.dropped {
         return text::dropped(one.answer, one.chain, text, to);
     }
-    to
+    Some(to)
 }
 
 // The packet that is next in the words, after what was read and written so far.
@@ -115,7 +116,7 @@ fn gather_one(
     if one.read == 0 {
         return report(CUT, read, to);
     }
-    let end = put_line(turn, buffer, text, to);
+    let end = put_line(turn, buffer, text, to).unwrap();
     collector.counts = one_more(collector.counts, sort_of(one.answer, one.place));
     report(one.answer, read + one.read, end)
 }

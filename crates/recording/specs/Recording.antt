@@ -7,7 +7,6 @@ use Rattle.stream.specs.Answers.{cut_packet, wrong_mark, wrong_version}
 use Rattle.screen.specs.Screen.{Screened}
 use Rattle.screen.specs.Screen.{goes_on, neither_type, screen}
 use Rattle.text.specs.Rescue.{bytes_line, drop_line, number_line, ticks_line}
-use Rattle.text.specs.Lines.{fits_from}
 use Rattle.recording.specs.declared.HeaderError.{HeaderError}
 use Rattle.recording.specs.declared.HeaderError.TheVariants.{WrongMark, WrongVersion}
 use Rattle.recording.specs.declared.Past.{Past}
@@ -104,7 +103,3 @@ text_of (Some (Drop place answer count bad)) = drop_line place answer count bad
 text_of (Some (Ticks n)) = ticks_line n
 text_of (Some (Bytes n)) = bytes_line n
 text_of (Some (Answer n)) = number_line n
-
--- the place after a row that is put at a place, where the row fits
-abbrev pub place_if_put : List ℕ → ℕ → List ℕ → Option ℕ
-place_if_put text to row = cond (fits_from text to row) (Some (to + length row)) None

@@ -6,9 +6,9 @@
 #![tactic(auto)]
 
 ghost use Rattle.std.specs.Prelude.{◌≡◌};
-ghost use Rattle.text.specs.Lines.{place_after, with_row};
+ghost use Rattle.text.specs.Lines.{place_if_put, with_row};
 ghost use Rattle.recording.specs.Recording.{cut_line, header, header_answer, left_line, line_kept, line_of};
-ghost use Rattle.recording.specs.Recording.{number_of, passes, past_after, place_if_put, stamp_in, start};
+ghost use Rattle.recording.specs.Recording.{number_of, passes, past_after, stamp_in, start};
 ghost use Rattle.recording.specs.Recording.{text_of, ticks_between};
 
 use screen::screen;
@@ -193,11 +193,11 @@ impl Line {
         }
     }
 
-    // Writes the line from a place on and answers the place after it, or, where it does not fit, writes
-    // nothing and answers the place.
+    // Writes the line from a place on and answers the place after it. Where it does not fit, it writes nothing and
+    // answers None.
     #[tactic(auto, unfolding(crate::specs::Recording::text_of))]
-    fn put_or_stay(self, text: &mut [u8], to: usize) -> usize
-        ensures place { result ≡ place_after text.old to (text_of (Some self)) }
+    pub fn put(self, text: &mut [u8], to: usize) -> Option<usize>
+        ensures place { result ≡ place_if_put text.old to (text_of (Some self)) }
         ensures text { text.new ≡ with_row text.old to (text_of (Some self)) }
     {
         match self {
@@ -211,14 +211,5 @@ impl Line {
             Line::Bytes(n) => text::bytes_line(n as u64, text, to),
             Line::Answer(n) => text::number_line(n as u64, text, to),
         }
-    }
-
-    // Writes the line from a place on and answers the place after it. Where it does not fit, nothing is written.
-    pub fn put(self, text: &mut [u8], to: usize) -> Option<usize>
-        ensures place { result ≡ place_if_put text.old to (text_of (Some self)) }
-        ensures text { text.new ≡ with_row text.old to (text_of (Some self)) }
-    {
-        let end = self.put_or_stay(text, to);
-        if end == to { None } else { Some(end) }
     }
 }

@@ -9,9 +9,8 @@ use Rattle.std.proofs.Common.{◌+◌, eqb}
 use Rattle.stream.specs.declared.Done.{Done}
 use Rattle.stream.specs.Call.{answer_of, fit, read_of, sent_of, went}
 use Rattle.stream.specs.Report.{counting, further}
-use Rattle.text.specs.Lines.{with_row}
+use Rattle.text.specs.Lines.{place_if_put, with_row}
 use Rattle.recording.specs.declared.Past.{Past}
-use Rattle.recording.specs.Recording.{place_if_put}
 use Rattle.rescuing.specs.Rescue.{rowed}
 
 -- a row that has bytes was stored where there is a place after it

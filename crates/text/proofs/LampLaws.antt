@@ -13,7 +13,7 @@ use Rattle.keys.specs.declared.Keys.{Keys}
 use Rattle.std.specs.Prelude.{Option, None, Some}
 use Rattle.keys.specs.Keys.{down, down_count, least_down, tally}
 use Rattle.keys.proofs.Bit.{Found, found}
-use Rattle.text.specs.Lines.{place_after, places, with_row}
+use Rattle.text.specs.Lines.{place_if_put, places, with_row}
 use Rattle.text.specs.Lamps.{channel_line, lamp, lamp_row, lamps_below, lamps_line, line_from, number_field}
 use Rattle.text.proofs.LineLaws.{few, none-put, number-length}
 
@@ -84,7 +84,7 @@ module _ (group channel : ℕ) (keys : Keys) (lowest : ℕ) where
 -- a channel with no key down has no line, and nothing is put in its place
 pub no_line : (group channel : ℕ) (keys : Keys) (lowest : Option ℕ) (l : List ℕ) (to : ℕ)
     → lowest ≡ least_down keys → lowest ≡ None
-    → (to ≡ place_after l to (channel_line group channel keys)) × (l ≡ with_row l to (channel_line group channel keys))
+    → (Some to ≡ place_if_put l to (channel_line group channel keys)) × (l ≡ with_row l to (channel_line group channel keys))
 unfolding line_from
 no_line group channel keys lowest l to e n =
     let z : channel_line group channel keys ≡ [] = ap (line_from group channel keys) (sym e ∙ n) in rw z (none-put l to)

@@ -10,9 +10,9 @@ use lib.Dec.{ltb}
 use lib.ListN.{length, length-append, get_or, set, take}
 use lib.Seq.{length-take-le, sets, take-suc}
 use borrow.Author.Tests.{le-leb, le-ltb, lt-ltb, ltb-false, ne_eqb}
-use Rattle.text.specs.Lines.{call_of, decimal, digits, fields_of, glyph, hex_fields, line_of, number_then, place_after, place_field}
-use Rattle.text.specs.Lines.{places, places_in, with_row}
-use Rattle.std.proofs.Common.{map}
+use Rattle.text.specs.Lines.{call_of, decimal, digits, fields_of, glyph, hex_fields, line_of, number_then}
+use Rattle.text.specs.Lines.{place_field, place_if_put, places, places_in, with_row}
+use Rattle.std.proofs.Common.{Some, map}
 use Rattle.std.proofs.lemmas.List.{map-id}
 use Rattle.ground.proofs.Stores.{set-sets, sets-append}
 
@@ -27,8 +27,8 @@ unfolding number_then
 number-length end n = omega (arith, length-append (decimal n) (end ∷ []), digits-length 10 (places n) n)
 
 -- an empty row changes nothing
-pub none-put : (l : List ℕ) (to : ℕ) → (to ≡ place_after l to []) × (l ≡ with_row l to [])
-none-put l to = rw (le-leb 0 (length l - to) (omega arith)) (omega arith, refl)
+pub none-put : (l : List ℕ) (to : ℕ) → (Some to ≡ place_if_put l to []) × (l ≡ with_row l to [])
+none-put l to = rw (le-leb 0 (length l - to) (omega arith)) (ap Some (omega arith), refl)
 
 -- n itself is enough to count its places by
 places-enough : (f g n : ℕ) → n ≤ f → n ≤ g → places_in f n ≡ places_in g n

@@ -7,11 +7,12 @@ use lib.Dec.{ltb}
 use lib.ListN.{drop, length, length-append, set, take}
 use lib.Seq.{length-take-le, sets, take_all}
 use borrow.Author.Tests.{le-leb, lt-leb}
+use Rattle.std.proofs.Common.{Option, None, Some, is_some, true, unwrap_or}
 use Rattle.std.proofs.lemmas.List.{take-append-le}
 use Rattle.std.proofs.lemmas.List.Edits.{sets-eq}
-use Rattle.ground.proofs.Cases.{choose}
+use Rattle.ground.proofs.Cases.{by_bool, choose}
 use Rattle.ground.proofs.Stores.{sets-append}
-use Rattle.text.specs.Lines.{place_after, places_in, with_row}
+use Rattle.text.specs.Lines.{fits_from, place_after, place_if_put, places_in, with_row}
 
 -- a number has a digit
 pub places-some : (f n : ℕ) → 0 < places_in f n
@@ -20,20 +21,30 @@ places-some zero n = omega arith
 places-some (suc f) n = choose (λ (k : ℕ). 0 < k) (ltb n 10) (λ _. omega arith) (λ _. omega arith)
 
 -- what a row makes of a buffer
-abbrev pub Put : List ℕ → ℕ → List ℕ → ℕ → List ℕ → Type 0
-Put l to row end after = (end ≡ place_after l to row) × (after ≡ with_row l to row)
+abbrev pub Put : List ℕ → ℕ → List ℕ → Option ℕ → List ℕ → Type 0
+Put l to row end after = (end ≡ place_if_put l to row) × (after ≡ with_row l to row)
+
+-- the place after it, or else the place itself
+pub or-else : (l : List ℕ) (to : ℕ) (row : List ℕ) (end : Option ℕ) → end ≡ place_if_put l to row
+    → unwrap_or end to ≡ place_after l to row
+or-else l to row end e = by_bool (fits_from l to row) (λ b. rw (e, b)) (λ b. rw (e, b))
 
 module _ (l : List ℕ) (to : ℕ) (row : List ℕ) where
-  pub row_fits : to + length row ≤ length l → Put l to row (to + length row) (sets l to row)
+  pub row_fits : to + length row ≤ length l → Put l to row (Some (to + length row)) (sets l to row)
   row_fits h = rw (le-leb (length row) (length l - to) (omega arith)) (refl, refl)
+
+  -- so there is a place after it
+  pub has_place : (end : Option ℕ) → end ≡ place_if_put l to row → to + length row ≤ length l → is_some end ≡ true
+  has_place end e h = rw (e, le-leb (length row) (length l - to) (omega arith)) refl
 
   -- by the test that the code makes of the row's length
   module _ (n : ℕ) (e : n ≡ length row) where
     pub put_there : n ≤ length l - to → (end : ℕ) (after : List ℕ) → end ≡ to + n → after ≡ sets l to row
-        → Put l to row end after
-    put_there h end after f g = rw (le-leb (length row) (length l - to) (omega arith)) (f ∙ rw e, g)
+        → Put l to row (Some end) after
+    put_there h end after f g =
+        rw (le-leb (length row) (length l - to) (omega arith)) (ap Some (f ∙ rw e), g)
 
-    pub put_nowhere : length l - to < n → Put l to row to l
+    pub put_nowhere : length l - to < n → Put l to row None l
     put_nowhere h = rw (lt-leb (length row) (length l - to) (omega arith)) (refl, refl)
 
 -- a row behind what stands in the first places

@@ -1,6 +1,7 @@
 -- RULES 10.2: a line of the listing, in ASCII. Two decimal numbers, or three where there is a place, and the words in
 -- hex, with one space between them.
-use Rattle.std.specs.Prelude.{ℕ, zero, suc, ◌+◌, ◌-◌, ◌/◌, ◌%◌, ◌^◌, Bool, cond, List, [], ◌∷◌, ◌++◌, eqb, leb, ltb, length}
+use Rattle.std.specs.Prelude.{ℕ, zero, suc, ◌+◌, ◌-◌, ◌/◌, ◌%◌, ◌^◌, Bool, cond, List, [], ◌∷◌, ◌++◌, eqb, leb, ltb}
+use Rattle.std.specs.Prelude.{Option, None, Some, length}
 use Rattle.std.proofs.lemmas.List.Edits.{sets}
 
 -- RULES 10.2: a digit below 16: 0 to 9, then A to F
@@ -59,6 +60,10 @@ fits_from buffer to row = leb (length row) (length buffer - to)
 -- RULES 10.2: the place after a row that is put at a place, or the place itself where the row does not fit
 abbrev pub place_after : List ℕ → ℕ → List ℕ → ℕ
 place_after buffer to row = cond (fits_from buffer to row) (to + length row) to
+
+-- RULES 10.2: the same place, where the row fits
+abbrev pub place_if_put : List ℕ → ℕ → List ℕ → Option ℕ
+place_if_put buffer to row = cond (fits_from buffer to row) (Some (to + length row)) None
 
 -- RULES 10.2: the buffer with a row put at a place, or as it was where the row does not fit
 abbrev pub with_row : List ℕ → ℕ → List ℕ → List ℕ

@@ -1,7 +1,8 @@
 // A line that ends in numbers in hex: the words sent of a call, or the bytes of a whole message.
-ghost use Rattle.std.specs.Prelude.{ℕ, ◌≡◌, ◌∷◌, ◌++◌, ◌+◌, ◌*◌, ◌-◌, ◌<◌, ◌≤◌, [], leb, length, map};
+ghost use Rattle.std.specs.Prelude.{ℕ, ◌≡◌, ◌∷◌, ◌++◌, ◌+◌, ◌*◌, ◌-◌, ◌<◌, ◌≤◌, [], leb};
+ghost use Rattle.std.specs.Prelude.{length, map};
 ghost use Rattle.std.proofs.lemmas.List.Edits.{sets};
-ghost use Rattle.text.specs.Lines.{fields_of, place_after, with_row};
+ghost use Rattle.text.specs.Lines.{fields_of, place_if_put, with_row};
 
 use crate::rows::put_row;
 use crate::{NEWLINE, SPACE, spell};
@@ -55,17 +56,17 @@ fn has_room(len: usize, to: usize, head: usize, count: usize, each: usize) -> bo
     head <= room && count <= (room - head) / each
 }
 
-// Writes a line of a head and of such numbers from a place on and answers the place after it, or, where it
-// does not fit, writes nothing and answers the place.
+// Writes a line of a head and of such numbers from a place on and answers the place after it. Where it does
+// not fit, it writes nothing and answers None.
 pub(crate) fn line_with_fields<T: Field>(
     head: &[u8],
     numbers: &[T],
     digits: usize,
     out: &mut [u8],
     to: usize,
-) -> usize
+) -> Option<usize>
     requires { digits ≤ 8 }
-    ensures place { result ≡ place_after out.old to
+    ensures place { result ≡ place_if_put out.old to
         (head.now ++ fields_of digits (map T.worth numbers.now) ++ (10 ∷ [])) }
     ensures text { out.new ≡ with_row out.old to
         (head.now ++ fields_of digits (map T.worth numbers.now) ++ (10 ∷ [])) }
@@ -74,8 +75,8 @@ pub(crate) fn line_with_fields<T: Field>(
         put_row(head, out, to);
         let end = put_fields(numbers, digits, out, to + head.len());
         out[end] = NEWLINE;
-        end + 1
+        Some(end + 1)
     } else {
-        to
+        None
     }
 }

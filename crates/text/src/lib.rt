@@ -17,11 +17,11 @@ mod whole;
 
 ghost use Rattle.std.specs.Prelude.{◌≡◌, ◌+◌, ◌<◌, ◌≤◌, length};
 ghost use Rattle.std.proofs.lemmas.List.Edits.{sets};
-ghost use Rattle.text.specs.Lines.{digits, line_of, place_after, with_row};
+ghost use Rattle.text.specs.Lines.{digits, line_of, place_if_put, with_row};
 ghost use Rattle.text.specs.Lines;
 
 use fields::line_with_fields;
-use made::Made;
+use made::{CALL_BYTES, Made};
 pub use panel::lamps;
 pub use rescue::{bytes_line, drop_line, number_line, ticks_line};
 pub use rows::{number, row};
@@ -72,15 +72,22 @@ fn spell(n: u64, base: u64, count: usize, out: &mut [u8], to: usize)
     }
 }
 
-// Writes the line of a call from a place on and answers the place after it, or, where it does not
-// fit, writes nothing and answers the place.
-pub fn line(answer: u32, read: usize, place: u32, words: &[u32], out: &mut [u8], to: usize) -> usize
+// Writes the line of a call from a place on and answers the place after it. Where it does not fit, it
+// writes nothing and answers None.
+pub fn line(
+    answer: u32,
+    read: usize,
+    place: u32,
+    words: &[u32],
+    out: &mut [u8],
+    to: usize,
+) -> Option<usize>
     ensures place { result
-        ≡ place_after out.old to (line_of answer read place words.now) }
+        ≡ place_if_put out.old to (line_of answer read place words.now) }
     ensures text { out.new
         ≡ with_row out.old to (line_of answer read place words.now) }
 {
-    let mut head = Made::<62>::new();
+    let mut head = Made::<CALL_BYTES>::new();
     head.call(answer, read, place);
     line_with_fields(head.as_slice(), words, 8, out, to)
 }

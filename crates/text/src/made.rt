@@ -6,6 +6,15 @@ use crate::rows::put_row;
 use crate::{SPACE, places, spell};
 use std::marker::Model;
 
+// How many digits a number has at most.
+pub(crate) const DIGITS: usize = 20;
+
+// How long a number and the character after it are at most.
+pub(crate) const FIELD_BYTES: usize = DIGITS + 1;
+
+// How long the numbers of a call are at most: three, with a space between them.
+pub(crate) const CALL_BYTES: usize = 3 * DIGITS + 2;
+
 // The bytes of the line so far, at most N. A number has at most 20 digits, so each line says by its N what it
 // may come to, and where that is too little it is not proved.
 #[derive(Drop)]

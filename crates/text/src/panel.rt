@@ -1,11 +1,11 @@
 // A line of the panel: the group and the channel, how many keys are down, the lowest of them, and a
 // lamp for each key.
 ghost use Rattle.std.specs.Prelude.{◌≡◌, ◌++◌, ◌+◌, ◌≤◌, length};
-ghost use Rattle.text.specs.Lines.{place_after, with_row};
+ghost use Rattle.text.specs.Lines.{place_if_put, with_row};
 ghost use Rattle.text.specs.Lamps.{channel_line, lamp_row};
 ghost use Rattle.text.specs.Lamps;
 
-use crate::made::Made;
+use crate::made::{FIELD_BYTES, Made};
 use crate::rows::row;
 use crate::{NEWLINE, SPACE};
 use keys::Keys;
@@ -14,6 +14,9 @@ use keys::Keys;
 const KEYS: u8 = 128;
 
 const LAMPS: usize = KEYS as usize;
+
+// How long a line is at most: four numbers, the lamps and the end.
+const LINE_BYTES: usize = 4 * FIELD_BYTES + LAMPS + 1;
 
 // The lamp of a key.
 fn lamp(down: bool) -> u8
@@ -37,17 +40,17 @@ impl<const N: usize> Made<N> {
     }
 }
 
-// Writes the line of a channel from a place on and answers the place after it. Where no key is down or
-// the line does not fit, it writes nothing and answers the place.
-pub fn lamps(group: u8, channel: u8, keys: Keys, out: &mut [u8], to: usize) -> usize
-    ensures place { result ≡ place_after out.old to (channel_line group channel keys) }
+// Writes the line of a channel from a place on and answers the place after it. Where no key is down the line is
+// empty, so this is the place itself; where the line does not fit, it writes nothing and answers None.
+pub fn lamps(group: u8, channel: u8, keys: Keys, out: &mut [u8], to: usize) -> Option<usize>
+    ensures place { result ≡ place_if_put out.old to (channel_line group channel keys) }
     ensures text { out.new ≡ with_row out.old to (channel_line group channel keys) }
 {
     let lowest = keys.lowest();
     match lowest {
-        None => to,
+        None => Some(to),
         Some(key) => {
-            let mut line = Made::<213>::new();
+            let mut line = Made::<LINE_BYTES>::new();
             line.number_then(group as u64, SPACE);
             line.number_then(channel as u64, SPACE);
             line.number_then(keys.count() as u64, SPACE);

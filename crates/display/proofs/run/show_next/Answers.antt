@@ -46,31 +46,31 @@ returns-then-is_same_picture c =
       text = z.1;
     }
 
-pub returns-then-end-to : goal.returns-then-end-to
+pub returns-in_default : goal.returns-in_default
 unfolding show within
-returns-then-end-to c =
+returns-in_default c =
     let goes = judged-ok (screen neither_type c.packet_at-packet.result.now) (sym c.screen.ensures ∙ c.in-Ok.is) in
     let p = c.packet_at-packet in
     let a = c.args in
     let s = rw c.hear-after.ensures at (sym c.is_same_picture.ensures ∙ c.if-is_same_picture.false) in
     let z = (at-line a.units a.past a.desk p.result.now a.text.now goes s _ _
-    (rw c.hear-after.ensures at c.line-end.ensures.place, rw c.hear-after.ensures at c.line-end.ensures.text)).0
-    c.if-end-to.true in
+    (rw c.hear-after.ensures at c.line.ensures.place, rw c.hear-after.ensures at c.line.ensures.text)).0
+    c.in_default.is in
     rw (← p.ensures) record {
-      turn = rw c.report-done-then-end-to.ensures z.0;
+      turn = rw c.report-done-in_default.ensures z.0;
       text = z.1;
     }
 
-pub returns-else-end-to : goal.returns-else-end-to
+pub returns-in-Some : goal.returns-in-Some
 unfolding show within
-returns-else-end-to c =
+returns-in-Some c =
     let goes = judged-ok (screen neither_type c.packet_at-packet.result.now) (sym c.screen.ensures ∙ c.in-Ok.is) in
     let p = c.packet_at-packet in
     let a = c.args in
     let s = rw c.hear-after.ensures at (sym c.is_same_picture.ensures ∙ c.if-is_same_picture.false) in
     let z = (at-line a.units a.past a.desk p.result.now a.text.now goes s _ _
-    (rw c.hear-after.ensures at c.line-end.ensures.place, rw c.hear-after.ensures at c.line-end.ensures.text)).1
-    c.if-end-to.false in
+    (rw c.hear-after.ensures at c.line.ensures.place, rw c.hear-after.ensures at c.line.ensures.text)).1 _
+    c.in-Some.is in
     rw (← p.ensures) record {
       turn = rw (c.hear-after.ensures, c.report-done-in-Ok.ensures) z.0;
       text = z.1;

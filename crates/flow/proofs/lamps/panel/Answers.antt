@@ -4,19 +4,20 @@ use Prim.Native.Nat.{ℕ}
 use mathlib.Core.Path.{sym, ap, ◌∙◌}
 use mathlib.Core.List.{List}
 use native.Mathlib.Omega.{arith}
+use Rattle.text.proofs.RowLaws.{or-else}
 use Rattle.flow.proofs.PanelLaws.{lines-done, lines_more, panel-whole}
 use Rattle.flow.proofs.lamps.panel.Goals as goal
 
 pub loop-i-preserved : goal.loop-i-preserved
 loop-i-preserved c =
     let l = c.loop-i in
-    let k = c.lamps-written in (
+    let k = c.lamps-end in (
       omega arith,
       k.auto.out ∙ l.invariant.1,
       l.invariant.2,
       l.invariant.3
           ∙ lines_more c.args.table.records l.i _ l.text _ l.written _ (omega (arith, l.invariant.2))
-          (k.ensures.place, k.ensures.text),
+          (c.unwrap_or-written.ensures ∙ or-else _ l.written _ _ k.ensures.place, k.ensures.text),
     )
 
 pub returns : goal.returns

@@ -18,16 +18,16 @@ returns-then-done-read c =
     c.if-done-read.true in
     record { turn = c.told.ensures ∙ z.0; text = z.1 }
 
-pub returns-then-end-to : goal.returns-then-end-to
-returns-then-end-to c =
+pub returns-in_default : goal.returns-in_default
+returns-in_default c =
     let a = c.args in
     let p = next a.words.now a.past in
     let x = c.called-turned in
     let z = line-some a.past p a.text.now a.record x.result x.new.four (packet_up a.record p)
-    c.line-end.result c.line-end.new.out (up-few a.record (drop a.past.read a.words.now))
+    c.line.result c.line.new.out (up-few a.record (drop a.past.read a.words.now))
     (calls_at a.words.now a.past _ a.text.now a.record x.result _ c.report.ensures (x.ensures.turn, x.ensures.output))
-    c.if-done-read.false (c.line-end.ensures.place, c.line-end.ensures.text) in
-    let w = z.0 c.if-end-to.true in
+    c.if-done-read.false (c.line.ensures.place, c.line.ensures.text) in
+    let w = z.0 c.in_default.is in
     record { turn = rw c.report-done.ensures w.0; text = w.1 }
 
 pub returns : goal.returns
@@ -36,8 +36,8 @@ returns c =
     let p = next a.words.now a.past in
     let x = c.called-turned in
     let z = line-some a.past p a.text.now a.record x.result x.new.four (packet_up a.record p)
-    c.line-end.result c.line-end.new.out (up-few a.record (drop a.past.read a.words.now))
+    c.line.result c.line.new.out (up-few a.record (drop a.past.read a.words.now))
     (calls_at a.words.now a.past _ a.text.now a.record x.result _ c.report.ensures (x.ensures.turn, x.ensures.output))
-    c.if-done-read.false (c.line-end.ensures.place, c.line-end.ensures.text) in
-    let w = z.1 c.if-end-to.false in
+    c.if-done-read.false (c.line.ensures.place, c.line.ensures.text) in
+    let w = z.1 _ c.in-Some.is in
     record { turn = c.told-2.ensures ∙ w.0; text = w.1 }
