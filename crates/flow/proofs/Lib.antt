@@ -1,4 +1,3 @@
 pub mod BoundLaws
-pub mod TableLoop
 pub mod ListLaws
 pub mod PanelLaws

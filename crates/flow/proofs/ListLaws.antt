@@ -1,25 +1,27 @@
--- The line of a call: what one packet's line makes of the text; and the step that lists looks at its own packet alone,
--- goes on only with a whole one, and stores the record as the call with the table does. Assumes nothing.
-use Prim.Native.Nat.{ℕ, ◌+◌, ◌-◌, ◌≤◌}
-use mathlib.Core.Path.{◌≡◌, refl, sym, ap, ap₂, ◌∙◌}
+-- The line of a call: what one packet's line makes of the text; and the step that lists stores the record as the call
+-- with the table does. Assumes nothing.
+use Prim.Native.Nat.{ℕ, ◌+◌, ◌-◌, ◌<◌, ◌≤◌}
+use mathlib.Core.Path.{◌≡◌, refl, sym, ap, ap₂, ◌∙◌, subst}
 use mathlib.Core.Bool.{Bool, true, false, cond}
-use mathlib.Core.List.{List, ◌∷◌, ◌++◌}
+use mathlib.Core.List.{List, ◌++◌, map}
 use native.Mathlib.Omega.{arith}
 use native.Mathlib.Nat.{add-zero, zero-add}
 use lib.Dec.{leb}
-use lib.ListN.{drop, get_or, length, length-append, replicate, take}
+use lib.ListN.{drop, get_or, length, length-append, length-map, replicate, set, take}
 use lib.Seq.{sets-eq, take_at}
 use borrow.Author.Tests.{le-leb, leb-true}
 use Rattle.std.proofs.Common.{Option, None, Some, unwrap_or}
 use Rattle.std.proofs.lemmas.Option.{none-some}
+use Rattle.ground.specs.Store.{written}
+use Rattle.ground.proofs.ListLaws.{get_d_any}
 use Rattle.ground.proofs.StoreLaws.{written_none}
-use Rattle.ump.specs.Packet.{packet, size}
-use Rattle.ump.proofs.PacketLaws.{at_none, packet-four, packet-near}
+use Rattle.ump.specs.Packet.{packet}
+use Rattle.ump.proofs.PacketLaws.{at_none, packet-four}
 use Rattle.stream.specs.declared.Done.{Done}
 use Rattle.stream.specs.Answers.{cut_packet, no_room, sent}
-use Rattle.stream.specs.Call.{Call, refused, sent_of, stopped, went}
-use Rattle.stream.specs.Report.{counting, place_told, placing}
-use Rattle.stream.proofs.RunLoop.{Inside}
+use Rattle.stream.specs.Call.{Call, left_of, refused, sent_of, stopped, went, within}
+use Rattle.stream.specs.Report.{counting, further, place_told, placing}
+use Rattle.stream.specs.Calls.{next_call}
 use Rattle.screen.specs.Screen.{open_rule, screen_by, screened}
 use Rattle.channel.specs.declared.Record.{Record}
 use Rattle.channel.specs.Record.{empty, sound, whole_table}
@@ -33,7 +35,7 @@ use Rattle.voice.proofs.PacketLaws.{effect-at, few-up}
 use Rattle.text.specs.Lines.{line_of, place_if_put, with_row}
 use Rattle.text.proofs.LineLaws.{line-length}
 use Rattle.table.specs.Table.{stored, table_up}
-use Rattle.table.proofs.TableLaws.{place_at, table_at, table-inside, table-near}
+use Rattle.table.proofs.TableLaws.{place_at, table_at, with-table}
 use Rattle.flow.specs.Listing.{line_up, list_up, listed, record_turned}
 
 -- the four words that a call is made into, before it
@@ -155,18 +157,6 @@ pub up-cut : (r : Record) (p : List ℕ) → length p ≡ 0 → packet_up r p �
 unfolding packet_if screen_by screened refused
 up-cut r p h = rw (at_none p h)
 
-pub list-near : (t : List Record) (w : ℕ) (s : List ℕ) → list_up t (take (size w) (w ∷ s)) ≡ list_up t (w ∷ s)
-unfolding list_up
-list-near t w s = rw (packet-near w s, table-near open_rule false t w s)
-
-listed-inside : {T : Type 0} (p s : List ℕ) (c : Call T) → Inside s c → Inside s (listed p c)
-listed-inside p s (went a ws u) h = h
-listed-inside p s (stopped a) h = tt
-
-pub list_inside : (t : List Record) (w : ℕ) (s : List ℕ) → Inside (w ∷ s) (list_up t (w ∷ s))
-unfolding list_up
-list_inside t w s = listed-inside (packet (w ∷ s)) (w ∷ s) (table_up t (w ∷ s)) (table-inside open_rule false t w s)
-
 listed-stored : (p : List ℕ) (t : List Record) (k : ℕ) (c : Call Record)
     → listed p (stored t k c) ≡ stored t k (listed p c)
 listed-stored p t k (went a ws r) = refl
@@ -183,3 +173,50 @@ pub list-own : (ws : List ℕ) (t : List Record) (i : ℕ) → length t ≡ whol
 unfolding list_up
 list-own ws t i l = rw (up-own ws t i l)
     (listed-stored _ t (place_at ws i) (packet_up (get_or t (place_at ws i) empty) (packet (drop i ws))))
+
+-- a table by value has as many records as its array: what owning it tells is of the list of their values
+pub length-mapped : (X Y : Type 0) (f : X → Y) (l : List X) (n : ℕ) → length (map f l) ≡ n → length l ≡ n
+length-mapped X Y f l n e = sym (length-map l f) ∙ e
+
+-- the call of the run, at the packet that is next, is that packet's line with its own record
+module _ (t : List Record) (ws text : List ℕ) (d : Done) (long : length t ≡ whole_table) where
+  abbrev k : ℕ
+  k = place_at ws d.read
+
+  abbrev r : Record
+  r = get_or t k empty
+
+  abbrev p : List ℕ
+  p = next ws d
+
+  abbrev room : ℕ
+  room = length text - d.written
+
+  abbrev all : Call (ℕ × List Record)
+  all = next_call list_up ws d (length text) t
+
+  abbrev Made : AfterAndReport Record → List Record → List ℕ → Type 0
+  Made x t' text' =
+      (x.done ≡ further d p all) × (t' ≡ (left_of (room, t) all).1) × (text' ≡ written d.written (sent_of all) text)
+
+  own-made : (x : AfterAndReport Record) (text' : List ℕ)
+      → (x ≡ record_turned d p text r (line_up r p)) × (text' ≡ output_of d text (line_up r p))
+      → Made x (set t k x.after) text'
+  unfolding within
+  own-made x text' e =
+      let y = with-table room t k p (line_up r p) in
+      rw (list-own ws t d.read long, y.0, y.1, y.2, y.3) (
+        ap (λ (z : AfterAndReport Record). z.done) e.0,
+        ap (λ (z : AfterAndReport Record). set t k z.after) e.0,
+        e.1,
+      )
+
+  -- the same from what the code says, which reads and stores the record at j
+  pub one-made : (j : ℕ) (d₀ : Record) (x : AfterAndReport Record) (text' : List ℕ) → j ≡ k → j < whole_table
+      → (x ≡ record_turned d p text (get_or t j d₀) (line_up (get_or t j d₀) p))
+      × (text' ≡ output_of d text (line_up (get_or t j d₀) p)) → Made x (set t j x.after) text'
+  one-made j d₀ x text' ej h e =
+      let same : get_or t j d₀ ≡ r =
+      get_d_any t j d₀ empty (subst (λ (l : ℕ). j < l) (sym long) h) ∙ ap (λ (i : ℕ). get_or t i empty) ej in
+      let f : (x ≡ record_turned d p text r (line_up r p)) × (text' ≡ output_of d text (line_up r p)) = rw same at e in
+      rw ej (own-made x text' f)

@@ -8,12 +8,13 @@ ghost use Rattle.voice.specs.Packet.{packet_up};
 ghost use Rattle.voice.specs.Turn.{next, output_of};
 ghost use Rattle.table.specs.Table.{table_after};
 ghost use Rattle.flow.specs.Listing.{line_up, record_turned, run_lines};
+ghost use Rattle.flow.specs.Kept.{listing, listing-own};
 
 use crate::{AfterAndReport, Table};
 use channel::Record;
 use effect::effected;
 use screen::open_rule;
-use stream::{Done, NO_ROOM, SENT, report, report_place};
+use stream::{Calls, Done, NO_ROOM, SENT, report, report_place, run_calls};
 
 // Where a packet's record stands, by its first word.
 fn record_place(w: u32) -> usize
@@ -85,6 +86,29 @@ fn list_one(words: &[u32], past: Done, record: Record, text: &mut [u8]) -> After
     told(turned, end)
 }
 
+// The table, as a run into lines changes it.
+#[derive(Clone, Copy)]
+pub(crate) struct Listing {
+    table: Table,
+}
+
+impl Calls for Listing {
+    type Written = u8;
+
+    ghost numbers = { λ text. text };
+
+    ghost step = { listing };
+
+    fn call(&mut self, words: &[u32], past: Done, text: &mut [u8]) -> Done {
+        let i = record_place(ump::word_at(words, past.read));
+        let listed = list_one(words, past, self.table.records[i], text);
+        self.table.records[i] = listed.after;
+        listed.done
+    }
+
+    ghost own_packet = { listing-own };
+}
+
 // The lines of the packets, going up, until one stops the run or its line has no room.
 pub fn list_some(table: Table, words: &[u32], text: &mut [u8]) -> AfterAndReport<Table>
     ensures report { result.done
@@ -94,24 +118,10 @@ pub fn list_some(table: Table, words: &[u32], text: &mut [u8]) -> AfterAndReport
     ensures lines { text.new ≡ at_start
         (run_lines (length text.old) table.records words.now).sends text.old }
 {
-    let mut records = table.records;
-    let mut read: usize = 0;
-    let mut written: usize = 0;
-    while read < words.len() {
-        let i = record_place(words[read]);
-        let listed = list_one(words, report(SENT, read, written), records[i], text);
-        let after = listed.after;
-        let done = listed.done;
-        records[i] = after;
-        if done.read == read {
-            let after = Table { records };
-            let done = report(done.answer, read, done.written);
-            return AfterAndReport { after, done };
-        }
-        read = done.read;
-        written = done.written;
+    let mut listing = Listing { table };
+    let done = run_calls(&mut listing, words, text);
+    AfterAndReport {
+        after: listing.table,
+        done,
     }
-    let after = Table { records };
-    let done = report(SENT, read, written);
-    AfterAndReport { after, done }
 }
