@@ -58,7 +58,7 @@ pub(crate) fn send_voice(w: u32, out: &mut [u8], to: usize) -> Option<usize>
 fn is_alone(b: u8) -> bool
     ensures { result ≡ alone b }
 {
-    (b == 0xF6) | (b == 0xF8) | (b == 0xFA) | (b == 0xFB) | (b == 0xFC) | (b == 0xFE) | (b == 0xFF)
+    matches!(b, 0xF6 | 0xF8 | 0xFA | 0xFB | 0xFC | 0xFE | 0xFF)
 }
 
 // A system message: F2 has two data bytes, F1 and F3 have one.

@@ -14,10 +14,10 @@ ghost use Rattle.outlet.specs.Sending.{call_at, call_now, onward, told_one, told
 
 use crate::exclusives::send_exclusive;
 use crate::messages::{send_system, send_voice};
-use screen::Refusal;
+use screen::{Refusal, is_reserved};
 use stream::{
-    BAD_DATA, BAD_STATUS, CUT, Done, NO_ROOM, NOT_FOR_CABLE, OUT_OF_RANGE, RESERVED, SENT,
-    TAKEN_IN, report, report_place,
+    BAD_STATUS, CUT, Done, NO_ROOM, NOT_FOR_CABLE, OUT_OF_RANGE, RESERVED, SENT, TAKEN_IN, report,
+    report_place,
 };
 use ump::{MIDI1_VOICE, group_of, message_type, size, word_at};
 
@@ -40,8 +40,7 @@ fn is_ours(group: u8, w: u32) -> bool
 fn other_answer(w: u32) -> u32
     ensures { result ≡ cond (reserved (message_type w)) reserved_type not_for_cable }
 {
-    let t = message_type(w);
-    if ((6 <= t) & (t <= 12)) | (t == 14) {
+    if is_reserved(message_type(w)) {
         RESERVED
     } else {
         NOT_FOR_CABLE
@@ -53,17 +52,11 @@ fn check(w: u32, v: u32) -> Result<(), Refusal>
     ensures { result ≡ judged (checking (good_status w) (checked_fields w v) goes_on) }
 {
     if !fields::is_good_status(w) {
-        return Err(Refusal {
-            answer: BAD_STATUS,
-            place: 0,
-        });
+        return Err(Refusal::by(BAD_STATUS));
     }
     match fields::bad_place(w, v) {
         None => Ok(()),
-        Some(place) => Err(Refusal {
-            answer: BAD_DATA,
-            place,
-        }),
+        Some(place) => Err(Refusal::bad_field(place)),
     }
 }
 
@@ -73,19 +66,13 @@ pub fn screen_out(group: u8, packet: &[u32]) -> Result<(), Refusal>
     ensures { result ≡ judged (screen_out group packet.now) }
 {
     if packet.is_empty() {
-        return Err(Refusal {
-            answer: CUT,
-            place: 0,
-        });
+        return Err(Refusal::by(CUT));
     }
     let w = word_at(packet, 0);
     if is_ours(group, w) {
         check(w, word_at(packet, 1))
     } else {
-        Err(Refusal {
-            answer: other_answer(w),
-            place: 0,
-        })
+        Err(Refusal::by(other_answer(w)))
     }
 }
 

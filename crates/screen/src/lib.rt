@@ -44,7 +44,8 @@ pub fn open_rule() -> Rule
     }
 }
 
-fn is_reserved(t: u32) -> bool
+// Whether a message type is reserved.
+pub fn is_reserved(t: u32) -> bool
     ensures { result ≡ reserved t }
 {
     ((6 <= t) & (t <= 12)) | (t == 14)
@@ -96,14 +97,14 @@ fn is_for_beginners(w: u32) -> bool
 
 impl Refusal {
     // Without a place.
-    fn by(answer: u32) -> Refusal
+    pub fn by(answer: u32) -> Refusal
         ensures { result ≡ record { answer = answer; place = 0 } }
     {
         Refusal { answer, place: 0 }
     }
 
     // By the place of the first bad field.
-    fn bad_field(place: u32) -> Refusal
+    pub fn bad_field(place: u32) -> Refusal
         ensures { result ≡ record { answer = bad_data; place = place } }
     {
         Refusal {
