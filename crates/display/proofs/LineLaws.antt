@@ -100,7 +100,8 @@ from-few n (Some (OfPitch79 x)) p h = field-few n _ x p h (lit≤ tt)
 
 -- ---- the loops over the notes
 
-pub fields-more : (d : Desk) (units n : ℕ) → fields_below d units (n + 1) ≡ fields_below d units n ++ field_from n (shown_at d units n)
+pub fields-more : (d : Desk) (units n : ℕ)
+    → fields_below d units (n + 1) ≡ fields_below d units n ++ field_from n (shown_at d units n)
 unfolding fields_below
 fields-more d units n = rw (add-one n)
 

@@ -71,7 +71,8 @@ module _ (units : ℕ) (past : Done) (d : Desk) (p text : List ℕ) where
   at-refused s es n =
       let a = x.answer in
       let o = refusal {T = ℕ × Desk} a (room, d) p (cut-only open_rule neither_type p) in
-      rw (es, ne_eqb a goes_on (λ q. n (ap (λ (y : Screened). y.answer) es ∙ q)), refused-fits room a d, screen-place open_rule neither_type p)
+      let other = ne_eqb a goes_on (λ q. n (ap (λ (y : Screened). y.answer) es ∙ q)) in
+      rw (es, other, refused-fits room a d, screen-place open_rule neither_type p)
       (rw (left-refused a, o.0, o.1, o.2, add-zero to), rw o.2 (sym (written_none to text)))
 
   module _ (g : x.answer ≡ goes_on) where

@@ -65,7 +65,9 @@ module _ (row₀ : List ℕ) (at rest : ℕ) where
         small = omega arith;
         place = omega (arith, one, s.place);
         is = rw (s.is, s.place) (sym (sets-append row₀ at s.before (d ∷ [])));
-        all = s.all ∙ rw (a-digit s.more left some n) (sym (append_assoc s.before (d ∷ []) (fraction_digits (s.more - 1) (left * 10 % 2 ^ 31))));
+        all = s.all
+            ∙ rw (a-digit s.more left some n)
+            (sym (append_assoc s.before (d ∷ []) (fraction_digits (s.more - 1) (left * 10 % 2 ^ 31))));
       }
 
   -- nothing is left, of the number or of the places
@@ -100,7 +102,8 @@ whole-few n h =
 
 sub-mul : (m n k : ℕ) → (m - n) * k ≡ m * k - n * k
 sub-mul m n k =
-    mul_comm (m - n) k ∙ mul-sub k m n ∙ ap (λ (z : ℕ). z - k * n) (mul_comm k m) ∙ ap (λ (z : ℕ). m * k - z) (mul_comm k n)
+    mul_comm (m - n) k ∙ mul-sub k m n ∙ ap (λ (z : ℕ). z - k * n) (mul_comm k m)
+    ∙ ap (λ (z : ℕ). m * k - z) (mul_comm k n)
 
 -- tenfold, one more factor 2 is there, and what stands before the point is a multiple of it
 halved : (k j m r : ℕ) → suc k + j ≡ 31 → r ≡ m * 2 ^ j
@@ -131,9 +134,11 @@ read_back (suc k) j m r n e f h =
     let l = length (fraction_digits k (r * 10 % 2 ^ 31)) in
     let on : (n * 10 + q) * 2 ^ 31 + r * 10 % 2 ^ 31 ≡ (n * 2 ^ 31 + r) * 10 = omega arith in
     let t : (n * 2 ^ 31 + r) * 10 * 10 ^ l ≡ (n * 2 ^ 31 + r) * 10 ^ suc l =
-    mul_assoc (n * 2 ^ 31 + r) 10 (10 ^ l) ∙ ap (λ (x : ℕ). (n * 2 ^ 31 + r) * x) (mul_comm 10 (10 ^ l) ∙ sym (pow-suc 10 l)) in
+    mul_assoc (n * 2 ^ 31 + r) 10 (10 ^ l)
+    ∙ ap (λ (x : ℕ). (n * 2 ^ 31 + r) * x) (mul_comm 10 (10 ^ l) ∙ sym (pow-suc 10 l)) in
     ap (λ (x : ℕ). read_after (n * 10 + x) (fraction_digits k (r * 10 % 2 ^ 31)) * 2 ^ 31) d
-    ∙ read_back k (suc j) (m * 5 - q * 2 ^ k) (r * 10 % 2 ^ 31) (n * 10 + q) (omega arith) (halved k j m r e f) (omega arith)
+    ∙ read_back k (suc j) (m * 5 - q * 2 ^ k) (r * 10 % 2 ^ 31) (n * 10 + q) (omega arith) (halved k j m r e f)
+    (omega arith)
     ∙ ap (λ (x : ℕ). x * 10 ^ l) on ∙ t)
 
 pub proved-exactly : Exactly

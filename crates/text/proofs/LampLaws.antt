@@ -84,7 +84,8 @@ module _ (group channel : ℕ) (keys : Keys) (lowest : ℕ) where
 -- a channel with no key down has no line, and nothing is put in its place
 pub no_line : (group channel : ℕ) (keys : Keys) (lowest : Option ℕ) (l : List ℕ) (to : ℕ)
     → lowest ≡ least_down keys → lowest ≡ None
-    → (Some to ≡ place_if_put l to (channel_line group channel keys)) × (l ≡ with_row l to (channel_line group channel keys))
+    → (Some to ≡ place_if_put l to (channel_line group channel keys))
+    × (l ≡ with_row l to (channel_line group channel keys))
 unfolding line_from
 no_line group channel keys lowest l to e n =
     let z : channel_line group channel keys ≡ [] = ap (line_from group channel keys) (sym e ∙ n) in rw z (none-put l to)

@@ -114,15 +114,18 @@ fields-append k (x ∷ xs) ys =
 
 -- the loop that stores the fields: one more of them
 pub fields-more : (k : ℕ) (l ws : List ℕ) (to i : ℕ) → i < length ws
-    → sets (set (sets l to (fields_of k (take i ws))) (to + suc k * i) 32) (to + suc k * i + 1) (digits 16 k (get_or ws i 0))
+    → sets (set (sets l to (fields_of k (take i ws))) (to + suc k * i) 32) (to + suc k * i + 1)
+    (digits 16 k (get_or ws i 0))
     ≡ sets l to (fields_of k (take (i + 1) ws))
 unfolding fields_of
 fields-more k l ws to i h =
     let f = fields_of k (take i ws) in
     let w : List ℕ = 32 ∷ digits 16 k (get_or ws i 0) in
     let n : to + length f ≡ to + suc k * i =
-    ap (λ (m : ℕ). to + m) (fields-length k (take i ws) ∙ ap (λ (m : ℕ). suc k * m) (length-take-le i ws (omega arith))) in
-    rw (add-one i, add-one (to + suc k * i), take-suc ws i 0 h, fields-append k (take i ws) (get_or ws i 0 ∷ []), append-nil w)
+    ap (λ (m : ℕ). to + m)
+    (fields-length k (take i ws) ∙ ap (λ (m : ℕ). suc k * m) (length-take-le i ws (omega arith))) in
+    let more = fields-append k (take i ws) (get_or ws i 0 ∷ []) in
+    rw (add-one i, add-one (to + suc k * i), take-suc ws i 0 h, more, append-nil w)
     (rw (sets-append l to f w, n))
 
 -- the same where the code counts
@@ -152,7 +155,8 @@ unfolding line_of
 call_line head answer read place ws e = rw (e, map-id ws)
 
 pub line-length : (answer read place : ℕ) (ws : List ℕ)
-    → length (line_of answer read place ws) ≡ places answer + places read + length (place_field place) + 2 + 9 * length ws
+    → length (line_of answer read place ws)
+    ≡ places answer + places read + length (place_field place) + 2 + 9 * length ws
 unfolding line_of
 line-length answer read place ws =
     let k = place_field place in

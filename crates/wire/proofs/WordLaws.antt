@@ -22,7 +22,8 @@ words-length (a ∷ b ∷ []) = refl
 words-length (a ∷ b ∷ c ∷ []) = refl
 words-length (a ∷ b ∷ c ∷ d ∷ s) = ap suc (words-length s) ∙ omega arith
 
-four-on : (a b c d : ℕ) (s : List ℕ) (k m : ℕ) → k ≡ suc (suc (suc (suc m))) → get_or (a ∷ b ∷ c ∷ d ∷ s) k 0 ≡ get_or s m 0
+four-on : (a b c d : ℕ) (s : List ℕ) (k m : ℕ) → k ≡ suc (suc (suc (suc m)))
+    → get_or (a ∷ b ∷ c ∷ d ∷ s) k 0 ≡ get_or s m 0
 four-on a b c d s k m e = ap (λ (j : ℕ). get_or (a ∷ b ∷ c ∷ d ∷ s) j 0) e
 
 -- the word at a place, by its four bytes
@@ -57,7 +58,8 @@ bytes-append (x ∷ xs) ys = ap (λ (l : List ℕ). four_bytes x ++ l) (bytes-ap
 
 -- the loop that stores the bytes of the words: one more word
 pub bytes-more : (l ws : List ℕ) (i : ℕ) → i < length ws
-    → sets (sets l 0 (bytes_of (take i ws))) (4 * i) (four_bytes (get_or ws i 0)) ≡ sets l 0 (bytes_of (take (i + 1) ws))
+    → sets (sets l 0 (bytes_of (take i ws))) (4 * i) (four_bytes (get_or ws i 0))
+    ≡ sets l 0 (bytes_of (take (i + 1) ws))
 unfolding bytes_of
 bytes-more l ws i h =
     let b = bytes_of (take i ws) in

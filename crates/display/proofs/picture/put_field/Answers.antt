@@ -29,7 +29,8 @@ record Named (l : List ℕ) (at note : ℕ) (name : List ℕ) (end : ℕ) (after
 
 named : (l : List ℕ) (at note : ℕ) (name : List ℕ) (i j k : ℕ) (a b e : List ℕ)
     → note < 2 ^ 8 → length name ≤ 6 → at + 63 ≤ length l
-    → Put l at (32 ∷ []) (Some i) a → Put a i (decimal note) (Some j) b → Put b j name (Some k) e → Named l at note name k e
+    → Put l at (32 ∷ []) (Some i) a → Put a i (decimal note) (Some j) b → Put b j name (Some k) e
+    → Named l at note name k e
 named l at note name i j k a b e h n room p q r =
     let few = note-few note h in
     let one = length-append (32 ∷ []) (decimal note) in
