@@ -9,7 +9,7 @@
 mod units;
 
 ghost use Rattle.std.specs.Prelude.{◌≡◌, ◌-◌, ◌<◌, ◌≤◌, length};
-ghost use Rattle.argument.specs.Argument.{channel_named, is_digit, number_in, parted, three_digits};
+ghost use Rattle.argument.specs.Argument.{channel_named, number_in, parted, three_digits};
 
 pub use units::units_in;
 
@@ -17,16 +17,8 @@ const COLON: u8 = b':';
 
 const ZERO: u8 = b'0';
 
-const NINE: u8 = b'9';
-
 // The most that a group or a channel may be.
 const MOST: u8 = 15;
-
-fn is_digit(b: u8) -> bool
-    ensures { result ≡ is_digit b }
-{
-    (ZERO <= b) & (b <= NINE)
-}
 
 // The value of a digit. A byte that is none has one too, which is not looked at.
 fn value(b: u8) -> u32
@@ -40,7 +32,7 @@ fn value(b: u8) -> u32
 fn three_digits(most: u8, a: u8, b: u8, c: u8) -> Option<u8>
     ensures { result ≡ three_digits most a b c }
 {
-    let digits = is_digit(a) & is_digit(b) & is_digit(c);
+    let digits = a.is_ascii_digit() & b.is_ascii_digit() & c.is_ascii_digit();
     let n = value(a) * 100 + value(b) * 10 + value(c);
     if digits & (n <= u32::from(most)) {
         Some(n as u8)

@@ -2,8 +2,8 @@
 // said on standard error; and the turns of a program, a buffer of its input at a time.
 //
 // No contract can say what a file or a terminal gives or takes, so these functions are proved to be safe
-// and to end, and a reading to leave no more bytes than its buffer holds. What failed is said on standard
-// error.
+// and to end, and a reading and a run of turns to leave no more bytes than their buffer holds. What failed is
+// said on standard error.
 #![tactic(auto)]
 
 ghost use Rattle.std.specs.Prelude.{◌≡◌, ◌≤◌, length, IfOk};
@@ -68,6 +68,9 @@ pub fn say_failed<E: Write>(errors: &mut E, name: &[u8], error: &Error) {
 
 // Reads after the bytes that are left, unless what is left waits to be treated first or the buffer is full.
 // Only 0 is the end of the input, and a read that a signal interrupts is no failure.
+//
+// Kept: where a failure is said and under which name are no struct, since all ends say it in one place and each has a
+// name of its own, so that each call would make one.
 pub fn read_more<R: Read, E: Write>(
     from: &mut R,
     errors: &mut E,
@@ -144,8 +147,9 @@ impl<R: Read, W: Write, E: Write> Streams<R, W, E> {
     }
 
     // All turns, until the input has ended and nothing waits: answers how many bytes are left then. The bytes that
-    // are left stand at the front of the buffer, and where packets among them wait, they come before more is read. Where
-    // no more can be read, they are treated once more.
+    // are left stand at the front of the buffer, and where packets among them wait, they come before more is read.
+    // Where no more can be read, they are treated once more. A start with more bytes than the buffer holds is one with
+    // all.
     //
     // A proved loop has to end, and nothing says that the input does: the turns are counted up to a number that no
     // input uses up.
@@ -155,8 +159,10 @@ impl<R: Read, W: Write, E: Write> Streams<R, W, E> {
         bytes: &mut [u8],
         begun: usize,
         program: &mut P,
-    ) -> Result<usize, Failed> {
-        let mut left = begun;
+    ) -> Result<usize, Failed>
+        ensures { IfOk result (λ left. left ≤ length bytes.new) }
+    {
+        let mut left = begun.min(bytes.len());
         let mut waits = false;
         let mut ended = false;
         for _ in 0..u64::MAX {
