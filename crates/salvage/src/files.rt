@@ -1,5 +1,6 @@
 // The arguments, and a rescue from one file into another.
 use crate::{INPUT_BYTES, Names, Streams, begin, rescue_input, rescue_rest};
+use ports::Failed;
 use remark::Line;
 use std::env::Env;
 use std::fs::{Files, OpenFile, OpenOptions};
@@ -20,28 +21,10 @@ const OUTPUT_NUMBER: i32 = 1;
 
 const ERROR_NUMBER: i32 = 2;
 
-// Whether a file stands where standard input, output or error should: that one is closed, and what is meant for it would
-// go into the file.
+// Whether a file stands where standard input, output or error should: that one is closed, and what is meant for it
+// would go into the file.
 fn is_standard<F: AsRawFd>(file: &F) -> bool {
     file.as_raw_fd() <= ERROR_NUMBER
-}
-
-// Says a line on standard error, or on standard output where standard error takes none.
-fn say_somewhere<W: Write, E: Write>(output: &mut W, errors: &mut E, line: &[u8]) {
-    if errors.write_all(line).is_err() {
-        let _ = output.write_all(line);
-    }
-}
-
-// Gives a file up that took the place of a standard stream, and says which one is closed.
-fn refuse_standard<F: AsRawFd + Drop, W: Write, E: Write>(file: F, output: &mut W, errors: &mut E) {
-    let number = file.as_raw_fd();
-    drop(file);
-    match number {
-        INPUT_NUMBER => say_somewhere(output, errors, b"rescue: standard input is closed\n"),
-        OUTPUT_NUMBER => say_somewhere(output, errors, b"rescue: standard output is closed\n"),
-        _ => say_somewhere(output, errors, b"rescue: standard error is closed\n"),
-    }
 }
 
 // The name of a file as text, which it has to be.
@@ -69,94 +52,76 @@ fn is_no_wait(error: &Error) -> bool {
     (kind == ErrorKind::InvalidInput) | (kind == ErrorKind::Unsupported)
 }
 
-// Fills the new file. What is written of it only later is waited for, so that a failure can be said.
-fn rescue_between<F: Read + Write + OpenFile + Drop, W: Write, E: Write>(
-    from: F,
-    clean: F,
-    output: &mut W,
-    errors: &mut E,
-    names: Names<'_>,
-    begun: usize,
-    bytes: &mut [u8],
-) {
-    let mut ends = Streams::new(from, clean, &mut *errors);
-    let _ = rescue_rest(&mut ends, output, names, begun, bytes);
-    if let Err(error) = ends.output.sync_all() {
-        if !is_no_wait(&error) {
-            ports::say_failed(&mut *ends.errors, names.new, &error);
-        }
-    }
+// A rescue from one file into another: where its lines go, and where it is said what failed.
+#[derive(Drop)]
+struct FileRescue<'f, 'l, 'e, H, L, E> {
+    files: &'f H,
+    lines: &'l mut L,
+    errors: &'e mut E,
 }
 
-// Makes the new file and fills it.
-fn rescue_into<H: Files, W: Write, E: Write>(
-    files: &H,
-    from: H::File,
-    output: &mut W,
-    errors: &mut E,
-    names: Names<'_>,
-    begun: usize,
-    bytes: &mut [u8],
-)
+impl<H: Files, L: Write, E: Write> FileRescue<'_, '_, '_, H, L, E>
 where
     H::File: AsRawFd,
 {
-    match make_new(files, names.new) {
-        Ok(clean) => {
-            if is_standard(&clean) {
-                refuse_standard(clean, output, errors);
-            } else {
-                rescue_between(from, clean, output, errors, names, begun, bytes);
+    // Says a line on standard error, or on standard output where standard error takes none.
+    fn say_somewhere(&mut self, line: &[u8]) {
+        if self.errors.write_all(line).is_err() {
+            let _ = self.lines.write_all(line);
+        }
+    }
+
+    // Gives a file up that took the place of a standard stream, and says which one is closed.
+    fn refuse_standard(&mut self, file: H::File) {
+        let number = file.as_raw_fd();
+        drop(file);
+        match number {
+            INPUT_NUMBER => self.say_somewhere(b"rescue: standard input is closed\n"),
+            OUTPUT_NUMBER => self.say_somewhere(b"rescue: standard output is closed\n"),
+            _ => self.say_somewhere(b"rescue: standard error is closed\n"),
+        }
+    }
+
+    // The file that was opened under a name. Why it cannot be used is said.
+    fn usable(&mut self, opened: io::Result<H::File>, name: &[u8]) -> Result<H::File, Failed> {
+        match opened {
+            Ok(file) => {
+                if is_standard(&file) {
+                    self.refuse_standard(file);
+                    return Err(Failed);
+                }
+                Ok(file)
+            }
+            Err(error) => {
+                ports::say_failed(self.errors, name, &error);
+                Err(Failed)
             }
         }
-        Err(error) => ports::say_failed(errors, names.new, &error),
     }
-}
 
-// From the old file, which is open, into the new one.
-fn rescue_from<H: Files, W: Write, E: Write>(
-    files: &H,
-    from: H::File,
-    output: &mut W,
-    errors: &mut E,
-    names: Names<'_>,
-)
-where
-    H::File: AsRawFd,
-{
-    let mut from = from;
-    let mut bytes = [0u8; INPUT_BYTES];
-    if let Ok(begun) = begin(&mut from, output, errors, names, &mut bytes) {
-        rescue_into(files, from, output, errors, names, begun, &mut bytes);
-    }
-}
-
-// From the old file into the new one, which is made once the old one is known to be a recording. A new file gets the
-// lowest number that is free, so it comes first to a standard stream that is closed.
-fn rescue_file<H: Files, W: Write, E: Write>(
-    files: &H,
-    output: &mut W,
-    errors: &mut E,
-    old: &[u8],
-    new: &[u8],
-)
-where
-    H::File: AsRawFd,
-{
-    let names = Names {
-        old,
-        new,
-        lines: b"rescue: standard output",
-    };
-    match open_old(files, old) {
-        Ok(from) => {
-            if is_standard(&from) {
-                refuse_standard(from, output, errors);
-            } else {
-                rescue_from(files, from, output, errors, names);
+    // From the old file into the new one, which is made once the old one is known to be a recording. A new file gets
+    // the lowest number that is free, so it comes first to a standard stream that is closed.
+    fn run<'n>(&mut self, old: &'n [u8], new: &'n [u8]) -> Result<(), Failed> {
+        let names = Names {
+            old,
+            new,
+            lines: b"rescue: standard output",
+        };
+        let from = open_old(self.files, old);
+        let mut from = self.usable(from, old)?;
+        let mut bytes = [0u8; INPUT_BYTES];
+        let begun = begin(&mut from, self.lines, self.errors, names, &mut bytes)?;
+        let clean = make_new(self.files, new);
+        let clean = self.usable(clean, new)?;
+        let mut ends = Streams::new(from, clean, &mut *self.errors);
+        let rescued = rescue_rest(&mut ends, self.lines, names, begun, &mut bytes);
+        // What is written of the new file only later is waited for, so that a failure can be said.
+        if let Err(error) = ends.output.sync_all() {
+            if !is_no_wait(&error) {
+                ports::say_failed(&mut *ends.errors, new, &error);
             }
         }
-        Err(error) => ports::say_failed(errors, old, &error),
+        rescued
     }
 }
 
@@ -166,16 +131,23 @@ fn say_too_long<E: Write>(errors: &mut E, what: &[u8]) {
 }
 
 // The files that the two arguments name. A name that is too long for a file is said.
-fn rescue_named<H: Env + Files, W: Write, E: Write>(rt: &H, output: &mut W, errors: &mut E)
+fn rescue_named<H: Env + Files, R, W: Write, E: Write>(rt: &H, streams: &mut Streams<R, W, E>)
 where
     H::File: AsRawFd,
 {
     let mut old = [0u8; NAME_BYTES];
     let mut new = [0u8; NAME_BYTES];
     match (rt.arg(1, &mut old), rt.arg(2, &mut new)) {
-        (Ok(n), Ok(m)) => rescue_file(rt, output, errors, &old[..n], &new[..m]),
-        (Err(_), _) => say_too_long(errors, b"rescue: OLD"),
-        (_, Err(_)) => say_too_long(errors, b"rescue: NEW"),
+        (Ok(n), Ok(m)) => {
+            let mut rescue = FileRescue {
+                files: rt,
+                lines: &mut streams.output,
+                errors: &mut streams.errors,
+            };
+            let _ = rescue.run(&old[..n], &new[..m]);
+        }
+        (Err(_), _) => say_too_long(&mut streams.errors, b"rescue: OLD"),
+        (_, Err(_)) => say_too_long(&mut streams.errors, b"rescue: NEW"),
     }
 }
 
@@ -196,7 +168,7 @@ where
             .with(b"rescue: takes OLD and NEW, or nothing: NEW is missing")
             .write(&mut streams.errors);
     } else if !start::is_given(rt, 3) {
-        rescue_named(rt, &mut streams.output, &mut streams.errors);
+        rescue_named(rt, streams);
     } else {
         let what = b": takes OLD and NEW, or nothing: ";
         start::say_wrong(rt, &mut streams.errors, b"rescue", what, 3);
