@@ -4,15 +4,15 @@ use Prim.Native.Nat.{ℕ, ◌+◌, ◌-◌, ◌*◌, ◌^◌, ◌<◌, ◌≤◌
 use mathlib.Core.Path.{◌≡◌, refl, sym, ap, ◌∙◌}
 use mathlib.Core.List.{List, [], ◌∷◌, ◌++◌, append_assoc, append-nil}
 use native.Mathlib.Omega.{arith}
-use lib.ListN.{drop, drop_of_length-le, get_or, length, length-append, replicate}
+use lib.ListN.{drop, drop_of_length-le, get_or, length, length-append}
 use borrow.Author.Tests.{le-leb, lt-leb}
 use Rattle.cable.specs.declared.Cable.{Cable}
 use Rattle.cable.specs.State.{pick}
 use Rattle.cable.specs.Hearing.{Call, byte_in}
 use Rattle.inlet.specs.Inlet.{calls_in}
 use Rattle.inlet.proofs.RunLaws.{at_byte, less, opened, opened-most}
-use Rattle.tally.specs.Tally.{all_sorts, counted, tally}
-use Rattle.tally.proofs.TallyLaws.{tally-counted, tally-none}
+use Rattle.tally.specs.Tally.{counted, tally}
+use Rattle.tally.proofs.TallyLaws.{tally-counted}
 use Rattle.cableflow.specs.Answers.{answers_in}
 
 module _ (g : ℕ) (s₀ : Cable) (a : List ℕ) (room₀ : ℕ) where
@@ -27,8 +27,9 @@ module _ (g : ℕ) (s₀ : Cable) (a : List ℕ) (room₀ : ℕ) where
     pub all : whole ≡ before ++ answers_in room (calls_in g s (drop i a))
     pub are : counts ≡ tally before
 
-  pub start : Counts (replicate all_sorts 0) s₀ 0 room₀
-  start = record { before = []; few = omega (arith, opened-most s₀); read = omega arith; all = refl; are = tally-none }
+  pub start : (counts : List ℕ) → counts ≡ tally [] → Counts counts s₀ 0 room₀
+  start counts none =
+      record { before = []; few = omega (arith, opened-most s₀); read = omega arith; all = refl; are = none }
 
   pub finish : (counts : List ℕ) (s : Cable) (i room : ℕ) → Counts counts s i room → length a ≤ i → counts ≡ tally whole
   unfolding calls_in answers_in

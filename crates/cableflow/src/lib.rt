@@ -20,7 +20,7 @@ use flow::Counted;
 use inlet::{Imported, run_import};
 use outlet::run_export;
 use stream::Done;
-use tally::{Out, SORTS, one_more, tally_of};
+use tally::{Counts, Out, tally_of};
 
 // How many words a byte sends.
 fn length_of(words: Words) -> usize
@@ -35,11 +35,11 @@ fn length_of(words: Words) -> usize
 
 // How often each answer comes among the calls at the bytes of a sound cable, up to one whose packet finds
 // no room. They are heard once more, and their packets go nowhere.
-fn counts_in(cable: Cable, group: u8, bytes: &[u8], room: usize) -> [u64; SORTS]
-    ensures { result ≡ tally (answers_in room (calls_in group cable bytes.now)) }
+fn counts_in(cable: Cable, group: u8, bytes: &[u8], room: usize) -> Counts
+    ensures { result.times ≡ tally (answers_in room (calls_in group cable bytes.now)) }
 {
     let mut state = cable;
-    let mut counts = [0u64; SORTS];
+    let mut counts = Counts::none();
     let mut at: usize = 0;
     let mut left = room;
     while at < bytes.len() {
@@ -48,8 +48,7 @@ fn counts_in(cable: Cable, group: u8, bytes: &[u8], room: usize) -> [u64; SORTS]
         if left < needs {
             return counts;
         }
-        let more = one_more(counts, u64::from(heard.answer));
-        counts = more;
+        counts.add(u64::from(heard.answer));
         at += heard.read;
         left -= needs;
         let after = heard.after;
@@ -60,16 +59,16 @@ fn counts_in(cable: Cable, group: u8, bytes: &[u8], room: usize) -> [u64; SORTS]
 
 // The same of any group and cable. Where one of them is refused, no call was made.
 // Kept: the run asked both before, and its answer would tell, but only with a law that no byte is answered so.
-fn counts_of(cable: Cable, group: u8, bytes: &[u8], room: usize) -> [u64; SORTS]
-    ensures { result ≡ tally (answers_of group room cable bytes.now) }
+fn counts_of(cable: Cable, group: u8, bytes: &[u8], room: usize) -> Counts
+    ensures { result.times ≡ tally (answers_of group room cable bytes.now) }
 {
     if 15 < group {
-        return [0; SORTS];
+        return Counts::none();
     }
     if is_sound(cable) {
         counts_in(cable, group, bytes, room)
     } else {
-        [0; SORTS]
+        Counts::none()
     }
 }
 
@@ -77,7 +76,7 @@ fn counts_of(cable: Cable, group: u8, bytes: &[u8], room: usize) -> [u64; SORTS]
 pub fn import_some(cable: Cable, group: u8, bytes: &[u8], out: &mut [u32]) -> Counted<Imported>
     ensures report { result.ran
         ≡ reported (run_in group (length out.old) cable bytes.now) }
-    ensures counts { result.counts
+    ensures counts { result.counts.times
         ≡ tally (answers_of group (length out.old) cable bytes.now) }
     ensures output { out.new ≡ at_start
         (run_in group (length out.old) cable bytes.now).sends out.old }
@@ -92,7 +91,7 @@ pub fn import_some(cable: Cable, group: u8, bytes: &[u8], out: &mut [u32]) -> Co
 pub fn export_some(group: u8, words: &[u32], out: &mut [u8]) -> Counted<Done>
     ensures report { result.ran
         ≡ Report.reported (run_out group (length out.old) words.now) }
-    ensures counts { result.counts ≡ tally_out group (take result.ran.read words.now) }
+    ensures counts { result.counts.times ≡ tally_out group (take result.ran.read words.now) }
     ensures output { out.new ≡ at_start
         (run_out group (length out.old) words.now).sends out.old }
 {

@@ -7,7 +7,7 @@
 // these functions are proved to be safe and to end.
 #![tactic(auto)]
 
-ghost use Rattle.std.specs.Prelude.{◌≤◌, length, IfOk};
+ghost use Rattle.std.specs.Prelude.{◌≡◌, ◌≤◌, length, IfOk, MatchResult};
 
 use flow::{PANEL_BYTES, Table};
 use notice::{Amount, Ending};
@@ -41,7 +41,7 @@ struct Filter<P> {
 }
 
 impl<P: Program + Drop, R: Read, W: Write, E: Write> Turns<R, W, E> for Filter<P> {
-    // Translates the whole packets. What they came to counts where it could be written.
+    // Translates the whole packets.
     fn turn(&mut self, streams: &mut Streams<R, W, E>, bytes: &[u8]) -> Result<Turn, Failed>
         ensures { IfOk result (λ turn. turn.read ≤ length bytes.now) }
     {
@@ -54,8 +54,7 @@ impl<P: Program + Drop, R: Read, W: Write, E: Write> Turns<R, W, E> for Filter<P
             &mut self.text,
         );
         self.table = done.table;
-        streams.write(b"standard output", &self.text, done.bytes)?;
-        self.totals = done.totals;
+        self.write(streams, done.bytes, done.totals)?;
         Ok(Turn {
             read: 4 * done.read,
             waits: done.answer == NO_ROOM,
@@ -73,6 +72,20 @@ impl<P: Program + Drop> Filter<P> {
             sent: [0; OUTPUT_WORDS],
             text: [0; OUTPUT_BYTES],
         }
+    }
+
+    // Writes what a turn came to. It counts only where it could be written.
+    fn write<R: Read, W: Write, E: Write>(
+        &mut self,
+        streams: &mut Streams<R, W, E>,
+        bytes: usize,
+        totals: Totals,
+    ) -> Result<(), Failed>
+        ensures { MatchResult result (λ _. self.new.totals ≡ totals) (λ _. self.new.totals ≡ self.old.totals) }
+    {
+        streams.write(b"standard output", &self.text, bytes)?;
+        self.totals = totals;
+        Ok(())
     }
 
     // All turns: answers how many bytes are left at the end of the input, which are a packet that is cut.

@@ -22,7 +22,7 @@ pub use lamps::{PANEL_BYTES, panel};
 pub use lines::list_some;
 use stream::Done;
 use table::{Job, run_from};
-use tally::{Down, SORTS, Up, tally_of};
+use tally::{Counts, Down, Up, tally_of};
 
 // The channel records.
 #[derive(Clone, Copy)]
@@ -38,12 +38,11 @@ pub struct AfterAndReport<T> {
     pub done: Done,
 }
 
-// A run, and how often each sort of packet came, at the sort's number. 0 stands for whatever was not
-// refused.
+// A run, and how often each sort of packet came. The sort 0 stands for whatever was not refused.
 #[derive(Clone, Copy)]
 pub struct Counted<T> {
     pub ran: T,
-    pub counts: [u64; SORTS],
+    pub counts: Counts,
 }
 
 // The packets of the words, going up, until one stops the run.
@@ -52,7 +51,7 @@ pub fn up_some(table: Table, words: &[u32], out: &mut [u32]) -> Counted<AfterAnd
         ≡ reported (run_up (length out.old) table.records words.now) }
     ensures table { result.ran.after.records
         ≡ table_after (run_up (length out.old) table.records words.now) }
-    ensures counts { result.counts ≡ tally_up (take result.ran.done.read words.now) }
+    ensures counts { result.counts.times ≡ tally_up (take result.ran.done.read words.now) }
     ensures output { out.new ≡ at_start
         (run_up (length out.old) table.records words.now).sends out.old }
 {
@@ -69,7 +68,7 @@ pub fn up_some(table: Table, words: &[u32], out: &mut [u32]) -> Counted<AfterAnd
 // The packets of the words, going down, until one stops the run.
 pub fn down_some(words: &[u32], out: &mut [u32]) -> Counted<Done>
     ensures report { result.ran ≡ reported (run_down (length out.old) words.now) }
-    ensures counts { result.counts ≡ tally_down (take result.ran.read words.now) }
+    ensures counts { result.counts.times ≡ tally_down (take result.ran.read words.now) }
     ensures output { out.new
         ≡ at_start (run_down (length out.old) words.now).sends out.old }
 {

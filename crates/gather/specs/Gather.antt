@@ -75,4 +75,4 @@ gathered_after d p c = counting (answer_of c) (d.read + read_of p c) (d.written 
 
 -- what is held of a collector and a buffer
 abbrev pub held_in : Collector → List ℕ → Held
-held_in c b = held c.chains c.counts b
+held_in c b = held c.chains c.counts.times b

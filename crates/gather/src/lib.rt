@@ -19,14 +19,14 @@ ghost use Rattle.gather.specs.Gather.{gather_at, gathered_after, gathering, held
 
 use chains::{CHAINS, Chain, Collected, call, is_dropping, slot_at};
 use stream::{CUT, Done, NO_ROOM, SENT, report};
-use tally::{SORTS, one_more, sort_of};
+use tally::{Counts, sort_of};
 
 // What goes on from one packet to the next beside the buffer: the chains, and how often each sort of call
 // came.
 #[derive(Clone, Copy)]
 pub struct Collector {
     pub chains: [Chain; CHAINS],
-    pub counts: [u64; SORTS],
+    pub counts: Counts,
 }
 
 // A call with the chain of its packet: what it reports, and whether it dropped a chain that was open.
@@ -117,7 +117,7 @@ fn gather_one(
         return report(CUT, read, to);
     }
     let end = put_line(turn, buffer, text, to).unwrap();
-    collector.counts = one_more(collector.counts, sort_of(one.answer, one.place));
+    collector.counts.add(sort_of(one.answer, one.place));
     report(one.answer, read + one.read, end)
 }
 

@@ -16,7 +16,7 @@ use ports::{Failed, Turn, Turns};
 use std::env::Env;
 use std::io::{Read, Write};
 use stream::NO_ROOM;
-use tally::SORTS;
+use tally::Counts;
 
 // The bytes of input that are held at once, and the words in them.
 const INPUT_BYTES: usize = 0x8000;
@@ -62,7 +62,7 @@ impl Librarian {
         Librarian {
             collector: Collector {
                 chains: [chains::closed_chain(); CHAINS],
-                counts: [0; SORTS],
+                counts: Counts::none(),
             },
             parts: [0; BUFFER_BYTES],
             read: 0,

@@ -8,7 +8,7 @@ ghost use Rattle.std.specs.Prelude.{◌<◌, ◌≤◌};
 use remark::Line;
 use std::io::Write;
 use stream::{BAD_DATA, NO_FORM};
-use tally::{LAST_ANSWER, SORTS};
+use tally::{Counts, LAST_ANSWER, SORTS};
 
 // How the input ended: between two packets or messages, or within one.
 #[derive(Clone, Copy, PartialEq, Eq)]
@@ -66,13 +66,14 @@ impl Refusals {
     }
 
     // With each sort that came, from one up to an end.
-    fn with_sorts(self, counts: &[u64; SORTS], from: usize, end: usize) -> Refusals
+    fn with_sorts(self, counts: &Counts, from: usize, end: usize) -> Refusals
         requires { end ≤ 33 }
     {
         let mut said = self;
         for sort in from..end {
-            if counts[sort] != 0 {
-                said = said.with(sort, counts[sort]);
+            let times = counts.of(sort as u64);
+            if times != 0 {
+                said = said.with(sort, times);
             }
         }
         said
@@ -80,7 +81,7 @@ impl Refusals {
 }
 
 // With each refusal that came, in the order of the answers, which start at 2.
-fn with_refusals(line: Line, counts: &[u64; SORTS]) -> Line {
+fn with_refusals(line: Line, counts: &Counts) -> Line {
     let answers = LAST_ANSWER as usize + 1;
     let behind = BAD_DATA as usize + 1;
     let refusals = Refusals {
@@ -95,8 +96,8 @@ fn with_refusals(line: Line, counts: &[u64; SORTS]) -> Line {
 }
 
 // Whether anything was refused.
-fn is_refused(counts: &[u64; SORTS]) -> bool {
-    counts[NO_FORM as usize..].iter().any(|times| *times != 0)
+fn is_refused(counts: &Counts) -> bool {
+    (NO_FORM as usize..SORTS).any(|sort| counts.of(sort as u64) != 0)
 }
 
 // What a program says at the end: how much it read, and how much it wrote where it writes packets or messages, what
@@ -106,7 +107,7 @@ pub fn say_end<E: Write>(
     name: &[u8],
     read: Amount<'_>,
     written: Option<Amount<'_>>,
-    counts: &[u64; SORTS],
+    counts: &Counts,
     ending: Ending,
 ) {
     if !is_refused(counts) & (ending == Ending::Whole) {

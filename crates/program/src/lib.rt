@@ -12,7 +12,7 @@ ghost use Rattle.std.specs.Prelude.{◌≡◌, ◌≤◌, length};
 
 use flow::Table;
 use stream::Done;
-use tally::SORTS;
+use tally::Counts;
 pub use totals::Totals;
 
 // What the packets of some words came to: the words read, and the bytes to write.
@@ -45,7 +45,7 @@ fn sent_as_bytes(
     table: Table,
     totals: Totals,
     done: Done,
-    counts: [u64; SORTS],
+    counts: Counts,
     sent: &[u32],
     text: &mut [u8],
 ) -> Translated
@@ -176,7 +176,6 @@ impl Program for Only {
         text: &mut [u8],
     ) -> Translated {
         let done = pupil::only(words, self.group, self.channel, sent);
-        let counts = [0u64; SORTS];
-        sent_as_bytes(table, totals, done, counts, sent, text)
+        sent_as_bytes(table, totals, done, Counts::none(), sent, text)
     }
 }

@@ -1,15 +1,13 @@
 // What the buffers of a program came to, all together.
-ghost use Rattle.std.specs.Prelude.{◌≡◌, if◌then◌else◌};
-
 use stream::Done;
-use tally::SORTS;
+use tally::Counts;
 
-// The words read and written in all, and how often each sort of packet came, at its number.
+// The words read and written in all, and how often each sort of packet came.
 #[derive(Clone, Copy)]
 pub struct Totals {
     pub read: u64,
     pub written: u64,
-    pub counts: [u64; SORTS],
+    pub counts: Counts,
 }
 
 impl Totals {
@@ -17,28 +15,16 @@ impl Totals {
         Totals {
             read: 0,
             written: 0,
-            counts: [0; SORTS],
+            counts: Counts::none(),
         }
     }
 
     // With what another buffer came to.
-    pub fn and(self, done: Done, more: [u64; SORTS]) -> Totals {
-        let mut counts = self.counts;
-        for i in 0..SORTS {
-            counts[i] = counts[i].wrapping_add(more[i]);
-        }
+    pub fn and(self, done: Done, more: Counts) -> Totals {
         Totals {
             read: self.read.wrapping_add(done.read as u64),
             written: self.written.wrapping_add(done.written as u64),
-            counts,
+            counts: self.counts.and(more),
         }
-    }
-
-    // Kept: as an `if` in each program that writes, what it promises would stand nowhere.
-    // Those before a buffer where what it came to could not be written, so that nothing counts that was not.
-    pub fn if_written(self, failed: bool, before: Totals) -> Totals
-        ensures { result ≡ (if failed then before else self) }
-    {
-        if failed { before } else { self }
     }
 }

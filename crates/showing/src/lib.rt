@@ -14,7 +14,7 @@ use ports::{Failed, Turn, Turns};
 use std::env::Env;
 use std::io::{Read, Write};
 use stream::NO_ROOM;
-use tally::{SORTS, one_more, sort_found};
+use tally::{Counts, Heard, tally_of};
 use tuning::Desk;
 use ump::{Channel, Group};
 
@@ -33,21 +33,9 @@ struct Display {
     desk: Desk,
     units: u8,
     read: u64,
-    counts: [u64; SORTS],
+    counts: Counts,
     words: [u32; INPUT_WORDS],
     text: [u8; TEXT_BYTES],
-}
-
-// With the packets of the words, each by the answer that refuses it, and bad data by its place.
-fn counted_all(counts: [u64; SORTS], words: &[u32]) -> [u64; SORTS] {
-    let mut counts = counts;
-    let mut at: usize = 0;
-    while at < words.len() {
-        let found = screen::screen(None, ump::packet_at(words, at));
-        counts = one_more(counts, sort_found(found));
-        at += ump::size(words[at]);
-    }
-    counts
 }
 
 impl<R: Read, W: Write, E: Write> Turns<R, W, E> for Display {
@@ -62,9 +50,7 @@ impl<R: Read, W: Write, E: Write> Turns<R, W, E> for Display {
         let done = shown.done;
         let desk = shown.desk;
         self.desk = desk;
-        let counts = self.counts;
-        let counts = counted_all(counts, &words[..done.read]);
-        self.counts = counts;
+        self.counts = self.counts.and(tally_of(Heard, &words[..done.read]));
         self.read = self.read.wrapping_add(done.read as u64);
         streams.write(b"desk: standard output", &self.text, done.written)?;
         Ok(Turn {
@@ -80,7 +66,7 @@ impl Display {
             desk,
             units,
             read: 0,
-            counts: [0; SORTS],
+            counts: Counts::none(),
             words: [0; INPUT_WORDS],
             text: [0; TEXT_BYTES],
         }

@@ -1,2 +1,3 @@
 pub mod TallyLaws
 pub mod FoundLaws
+pub mod BothLaws

@@ -105,8 +105,8 @@ module _ (sort : List ℕ → ℕ) (ws : List ℕ) where
     pub all : map sort (cut ws) ≡ before ++ rest i
     pub are : counts ≡ tally before
 
-  pub counts_start : Counts (replicate all_sorts 0) 0
-  counts_start = record { before = []; few = omega arith; all = refl; are = tally-none }
+  pub counts_start : (counts : List ℕ) → counts ≡ tally [] → Counts counts 0
+  counts_start counts none = record { before = []; few = omega arith; all = refl; are = none }
 
   pub counts-more : (counts : List ℕ) (i : ℕ) → Counts counts i → i < length ws → length ws < 2 ^ 64
       → ((w : ℕ) (s : List ℕ) → sort (take (size w) (w ∷ s)) ≡ sort (w ∷ s))

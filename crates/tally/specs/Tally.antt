@@ -6,7 +6,7 @@ use Rattle.stream.specs.Answers.{not_for_cable, sent}
 use Rattle.stream.specs.Call.{answer_of}
 use Rattle.stream.specs.Report.{place_told}
 use Rattle.screen.specs.declared.Refusal.{Refusal}
-use Rattle.screen.specs.Screen.{screen}
+use Rattle.screen.specs.Screen.{neither_type, screen}
 use Rattle.voice.specs.Packet.{call_down}
 use Rattle.outlet.specs.Outlet.{screen_out}
 
@@ -29,6 +29,10 @@ sort_down s = sort_of (answer_of (call_down tt s)) (place_told (answer_of (call_
 
 abbrev pub sort_out : ℕ → List ℕ → ℕ
 sort_out g s = sort_of (screen_out g (packet s)).answer (screen_out g (packet s)).place
+
+-- where it is only heard, no type is a wrong one
+abbrev pub sort_heard : List ℕ → ℕ
+sort_heard s = sort_of (screen neither_type (packet s)).answer (screen neither_type (packet s)).place
 
 -- how many times a number occurs
 unfoldable pub times : ℕ → List ℕ → ℕ

@@ -1,18 +1,18 @@
 // How often each answer came among the calls of a run, with bad data by place: for what a program says
 // at its end.
 //
-// No public function has a `requires`. The counts are a count over the packets of some words, or one
-// more of a sort, and each says so by definitions of specs/, on every input.
+// No public function has a `requires`. The counts are a count over the packets of some words, one more
+// of a sort, or two counts together, and each says so by definitions of specs/, on every input.
 #![tactic(auto)]
 
 mod ways;
 
-ghost use Rattle.std.specs.Prelude.{◌≡◌};
-ghost use Rattle.tally.specs.Tally.{counted, sort_found, sort_of, tally_by};
+ghost use Rattle.std.specs.Prelude.{◌≡◌, ◌+◌, ◌%◌, ◌^◌, [], EachIndex, slice_index};
+ghost use Rattle.tally.specs.Tally.{counted, sort_found, sort_of, tally, tally_by};
 
 use screen::Refusal;
 use stream::{NOT_FOR_CABLE, SENT};
-pub use ways::{Down, Out, Up, Way};
+pub use ways::{Down, Heard, Out, Up, Way};
 
 // The highest of all answers, behind which bad data stand by their places.
 pub const LAST_ANSWER: u32 = NOT_FOR_CABLE;
@@ -42,27 +42,61 @@ pub fn sort_found(found: Result<(), Refusal>) -> u64
     }
 }
 
-// One more of a sort. A count that is full begins again.
-pub fn one_more(counts: [u64; SORTS], sort: u64) -> [u64; SORTS]
-    ensures { result ≡ counted counts sort }
-{
-    let mut counts = counts;
-    let k = sort as usize;
-    if k < SORTS {
-        counts[k] = counts[k].wrapping_add(1);
+// How often each sort came, at its number.
+#[derive(Clone, Copy)]
+pub struct Counts {
+    times: [u64; SORTS],
+}
+
+impl Counts {
+    // Before the first call.
+    pub fn none() -> Counts
+        ensures { result.times ≡ tally [] }
+    {
+        Counts { times: [0; SORTS] }
     }
-    counts
+
+    // One more of a sort. A count that is full begins again.
+    pub fn add(&mut self, sort: u64)
+        ensures { self.new.times ≡ counted self.old.times sort }
+    {
+        let k = sort as usize;
+        if k < SORTS {
+            self.times[k] = self.times[k].wrapping_add(1);
+        }
+    }
+
+    // How often a sort came, and 0 for a number that no sort has.
+    pub fn of(&self, sort: u64) -> u64
+        ensures { result ≡ slice_index self.now.times sort }
+    {
+        match self.times.get(sort as usize) {
+            Some(times) => *times,
+            None => 0,
+        }
+    }
+
+    // How often each sort came in both together. A count that is full begins again here as well.
+    pub fn and(self, more: Counts) -> Counts
+        ensures { EachIndex result.times (λ sort. slice_index result.times sort
+            ≡ (slice_index self.times sort + slice_index more.times sort) % 2 ^ 64) }
+    {
+        let mut times = self.times;
+        for sort in 0..SORTS {
+            times[sort] = times[sort].wrapping_add(more.times[sort]);
+        }
+        Counts { times }
+    }
 }
 
 // How often each sort comes among the packets of the words, which all go one way.
-pub fn tally_of<W: Way>(way: W, words: &[u32]) -> [u64; SORTS]
-    ensures { result ≡ tally_by (W.sort way) words.now }
+pub fn tally_of<W: Way>(way: W, words: &[u32]) -> Counts
+    ensures { result.times ≡ tally_by (W.sort way) words.now }
 {
-    let mut counts = [0u64; SORTS];
+    let mut counts = Counts::none();
     let mut at: usize = 0;
     while at < words.len() {
-        let more = one_more(counts, way.sort_at(words, at));
-        counts = more;
+        counts.add(way.sort_at(words, at));
         at += ump::size(words[at]);
     }
     counts

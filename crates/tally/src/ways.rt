@@ -1,8 +1,9 @@
-// The ways that a packet goes, and its sort on each: up, down, or out to the cable of a group.
+// The ways that a packet goes, and its sort on each: up, down, out to the cable of a group, or to where it is
+// only heard.
 ghost use Rattle.std.specs.Prelude.{ℕ, ◌≡◌, ◌∷◌, List, drop, take};
 ghost use Rattle.ump.specs.Packet.{size};
-ghost use Rattle.tally.specs.Near.{down_near, out_near, up_near};
-ghost use Rattle.tally.specs.Tally.{sort_down, sort_out, sort_up};
+ghost use Rattle.tally.specs.Near.{down_near, heard_near, out_near, up_near};
+ghost use Rattle.tally.specs.Tally.{sort_down, sort_heard, sort_out, sort_up};
 
 use crate::{sort_found, sort_of};
 use screen::open_rule;
@@ -31,6 +32,10 @@ pub struct Down;
 // Out to the cable of a group.
 #[derive(Clone, Copy)]
 pub struct Out(pub u8);
+
+// Heard and not translated, so that no type is a wrong one.
+#[derive(Clone, Copy)]
+pub struct Heard;
 
 impl Way for Up {
     ghost sort = { λ _ s. sort_up s };
@@ -64,5 +69,16 @@ impl Way for Out {
     // The screening alone refuses here as well.
     fn sort_at(self, words: &[u32], at: usize) -> u64 {
         sort_found(outlet::screen_out(self.0, ump::packet_at(words, at)))
+    }
+}
+
+impl Way for Heard {
+    ghost sort = { λ _ s. sort_heard s };
+
+    ghost near = { λ _ w s. heard_near w s };
+
+    // The screening alone refuses, as it does going up.
+    fn sort_at(self, words: &[u32], at: usize) -> u64 {
+        sort_found(screen::screen(None, ump::packet_at(words, at)))
     }
 }

@@ -7,7 +7,7 @@ use Rattle.cableflow.proofs.CountLaws.{Counts}
 use Rattle.cableflow.proofs.counts_in.Given as goal
 
 abbrev pub invariant-loop-at : goal.invariant-loop-at
-invariant-loop-at l = Counts l.group l.initial.state l.bytes l.room l.counts l.state l.at l.left
+invariant-loop-at l = Counts l.group l.initial.state l.bytes l.room l.counts.times l.state l.at l.left
 
 abbrev pub decreases-loop-at : goal.decreases-loop-at
 decreases-loop-at l = 2 * (length l.bytes - l.at) + opened l.state

@@ -2,13 +2,12 @@
 use mathlib.Core.Path.{sym, ◌∙◌}
 use borrow.Author.Tests.{le-ltb, lt-ltb}
 use Rattle.cable.specs.State.{pick}
-use Rattle.tally.proofs.TallyLaws.{tally-none}
 use Rattle.cableflow.specs.Answers.{answers_of}
 use Rattle.cableflow.proofs.counts_of.Goals as goal
 
 pub returns-then-group-gt15 : goal.returns-then-group-gt15
 unfolding answers_of pick
-returns-then-group-gt15 c = rw (lt-ltb _ _ c.if-group-gt15.true) tally-none
+returns-then-group-gt15 c = rw (lt-ltb _ _ c.if-group-gt15.true) c.none.ensures
 
 pub returns-then-is_sound : goal.returns-then-is_sound
 unfolding answers_of pick
@@ -18,4 +17,4 @@ returns-then-is_sound c =
 pub returns-else-is_sound : goal.returns-else-is_sound
 unfolding answers_of pick
 returns-else-is_sound c =
-    rw (le-ltb _ _ c.if-group-gt15.false, sym c.is_sound.ensures ∙ c.if-is_sound.false) tally-none
+    rw (le-ltb _ _ c.if-group-gt15.false, sym c.is_sound.ensures ∙ c.if-is_sound.false) c.none-else-is_sound.ensures

@@ -64,7 +64,7 @@ returns c =
     let er = rw (rest_part a.past.read a.words.now) at e.report in
     let es = rw (rest_part a.past.read a.words.now) at e.chains in
     let eb = rw (rest_part a.past.read a.words.now) at e.buffer in
-    let m = c.one_more-collector.ensures ∙ ap (counted a.collector.now.counts) c.sort_of.ensures in
+    let m = c.add.ensures ∙ ap (counted a.collector.now.counts.times) c.sort_of.ensures in
     let p = rw e.dropped at c.put_line.ensures in
     let z = at_one (held_in a.collector.now a.buffer.now)
     (drop a.past.read a.words.now) a.text.now a.past _ _ _ _ _ _ _ er es eb
