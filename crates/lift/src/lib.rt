@@ -187,6 +187,7 @@ fn control_change(memory: Memory, w: u32) -> UpwardMessage
 }
 
 // The bank goes with the program where both halves are present, and is spent either way.
+// Kept: each half is a byte of the record in C, so an `Option` of the two would be made here only to be taken apart.
 fn program(memory: Memory, w: u32) -> UpwardMessage
     ensures { result ≡ message_in w memory (program_change1 (Word.data1 w)) }
 {

@@ -15,6 +15,8 @@ use message::voice_word;
 use ump::{MIDI1_VOICE, byte1, byte3, byte4, has_bank, status};
 
 // Up to four words, as values.
+// Kept: as an array and a count, of which so many words were copied at once, it proved, but a call down over played
+// music took a tenth longer.
 #[derive(Drop)]
 pub struct UpToFourWords {
     pub count: usize,
@@ -63,9 +65,7 @@ fn one_word(status: u32, a: u8, b: u8, w: u32) -> UpToFourWords
     UpToFourWords {
         count: 1,
         first: voice_word(MIDI1_VOICE, status, a, b, w),
-        second: 0,
-        third: 0,
-        fourth: 0,
+        ..no_words()
     }
 }
 
@@ -101,7 +101,7 @@ fn program_down(w: u32, v: u32) -> UpToFourWords
             first: control_word(0, byte3(v), w),
             second: control_word(32, byte4(v), w),
             third: voice_word(MIDI1_VOICE, 12, byte1(v), 0, w),
-            fourth: 0,
+            ..no_words()
         }
     } else {
         one_word(12, byte1(v), 0, w)

@@ -48,6 +48,8 @@ pub extern "C" fn quernbrae_empty() -> Record
     Record::empty()
 }
 
+// Kept: the C interface has a name for each call, for its run, for those of the beginners' room and for those of a host,
+// so each of them stands here by itself, down to the last mark.
 // One call up: the packet at the start of the words.
 #[unsafe(no_mangle)]
 pub extern "C" fn quernbrae_up(words: &[u32], table: &mut [Record], out: &mut [u32]) -> Done

@@ -26,6 +26,8 @@ pub struct KeysDown {
     pub lowest: u32,
 }
 
+// Kept: a group and a channel that are asked for are no struct, since C hands over two numbers of any size, and most
+// that take them ask only one thing of them.
 pub fn is_in_range(group: u8, channel: u8) -> bool
     ensures { result ≡ in_range group channel }
 {

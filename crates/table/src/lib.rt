@@ -42,8 +42,8 @@ struct Progress {
     more: bool,
 }
 
-// A report as the loop hands it over. No two fields stand side by side as in `Done`, so that each is copied by itself:
-// two that are copied at once wait until both are written.
+// A report as the loop hands it over.
+// Kept: no two fields stand side by side as in `Done`, since two that are copied at once wait until both are written.
 #[derive(Clone, Copy)]
 struct Ended {
     written: usize,
@@ -236,6 +236,7 @@ impl From<Ended> for Done {
 }
 
 // The call at the start of the words, or the run over all of them.
+// Kept: no `for` goes through the packets, since the report of each call says where the next one starts.
 fn go_through(words: &[u32], job: Job, table: &mut [Record], out: &mut [u32]) -> Ended
     ensures report { result ≡ ended_by (asked_report job words.now
         (asked job (length out.old) table.old words.now)) }

@@ -25,6 +25,7 @@ pub(crate) fn same_words(p: &[u32]) -> UpToFourWords
 
 // Stores the words from a place on and answers true, or, where they do not fit, stores nothing and
 // answers false.
+// Kept: one copy of so many words out of an array proved, but a call down over played music took a tenth longer.
 pub(crate) fn put(out: &mut [u32], to: usize, words: UpToFourWords) -> bool
     requires { words.count ≤ 4 }
     ensures answer { result ≡ leb (length (sent_words words)) (length out.old - to) }
@@ -87,6 +88,8 @@ pub(crate) fn send(past: Done, n: usize, words: UpToFourWords, out: &mut [u32]) 
 }
 
 // A packet that is sent on unchanged, unless the screening refuses it.
+// Kept: what is past, the output and the rule are no struct, since the output is lent anew at each step, and most steps
+// need only two of the three.
 pub(crate) fn onward(wrong: u32, past: Done, packet: &[u32], out: &mut [u32], rule: Rule) -> Done
     requires { (length packet.now ≤ 4) × (past.read + length packet.now < 2 ^ 64) }
     ensures report { result

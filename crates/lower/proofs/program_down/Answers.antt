@@ -8,6 +8,7 @@ pub returns-then-has_bank : goal.returns-then-has_bank
 unfolding bank_of lower write1
 returns-then-has_bank c = simp (
   tests,
+  c.no_words.ensures,
   c.voice_word.ensures,
   c.byte1.ensures,
   c.control_word-then-has_bank.ensures,

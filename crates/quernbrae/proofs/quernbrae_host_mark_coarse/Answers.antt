@@ -1,5 +1,5 @@
--- `quernbrae::quernbrae_host_mark_coarse` meets its contract: a record that the host may mark is one that is named, and no
--- other is read. Assumes nothing.
+-- `quernbrae::quernbrae_host_mark_coarse` meets its contract: a record that the host may mark is one that is named, and
+-- no other is read. Assumes nothing.
 use Rattle.std.proofs.Common.{◌∙◌, sym}
 use Rattle.ground.proofs.Bools.{and_left}
 use Rattle.quernbrae.proofs.Marks.{host-marked, host-unmarked}
