@@ -1,12 +1,11 @@
 // Packets of exclusives, from their two words into the output.
-ghost use Rattle.std.specs.Prelude.{◌≡◌, map, ◌+◌, ◌≤◌, length, take};
+ghost use Rattle.std.specs.Prelude.{◌≡◌, ◌||◌, eqb, leb, map, ◌+◌, ◌≤◌, length, take};
 ghost use Rattle.std.proofs.lemmas.List.Edits.{sets};
-ghost use Rattle.ump.specs.Word.{message_type};
+ghost use Rattle.ump.specs.Word.{count, message_type, status};
 ghost use Rattle.fields.specs.Check.{good_fields, seven};
 ghost use Rattle.cable.specs.Put.{Puts};
-ghost use Rattle.cable.specs.State.{pick};
 ghost use Rattle.outlet.specs.Outlet.{six};
-ghost use Rattle.outlet.specs.Sending.{clean, framed, marked, payload_number, sends};
+ghost use Rattle.outlet.specs.Sending.{clean, framed, payload_number, sends};
 
 use cable::{END_OF_EXCLUSIVE, EXCLUSIVE};
 use ump::{byte1, byte2, byte3, byte4, count, status};
@@ -16,16 +15,6 @@ const SIX: u32 = 6;
 
 // The highest bit of each of six bytes.
 const HIGH_BITS: u64 = 0x808080808080;
-
-// Stores a byte at a place where a test holds.
-fn put_marked(test: bool, byte: u8, out: &mut [u8], at: usize)
-    requires { at + pick test 1 0 ≤ length out.old }
-    ensures { out.new ≡ sets out.old at (marked test byte) }
-{
-    if test {
-        out[at] = byte;
-    }
-}
 
 // Stores the first n bytes of a payload, which has its first two in the first word.
 // Kept: one copy of n bytes in place of the six steps was proved, and took 7 hundredths longer in a run out.
@@ -59,36 +48,31 @@ fn put_payload(n: usize, w: u32, v: u32, out: &mut [u8], at: usize)
     out[at + 5] = byte4(v);
 }
 
-// How many bytes stand where a test holds: one or none.
-fn places(test: bool) -> usize
-    ensures { (result ≡ pick test 1 0) × (result ≤ 1) }
+// A packet with no more than six bytes of payload: F0 stands before the complete and the start packet, F7 behind the
+// complete and the end packet.
+fn send_framed(w: u32, v: u32, out: &mut [u8], to: usize) -> Option<usize>
+    requires { (count w ≤ 6) × (to ≤ length out.old) }
+    ensures { Puts (framed (leb (status w) 1) (eqb (status w) 0 || eqb (status w) 3) (count w) w v)
+        to out.old result out.new }
 {
-    if test { 1 } else { 0 }
-}
-
-// A packet with n bytes of payload, between the byte that opens an exclusive and the one that ends it.
-fn send_framed(
-    opens: bool,
-    closes: bool,
-    n: usize,
-    w: u32,
-    v: u32,
-    out: &mut [u8],
-    to: usize,
-) -> Option<usize>
-    requires { (n ≤ 6) × (to ≤ length out.old) }
-    ensures { Puts (framed opens closes n w v) to out.old result out.new }
-{
-    let head = places(opens);
-    let tail = places(closes);
-    let all = head + n + tail;
-    if out.len() - to < all {
+    let form = status(w);
+    let opens = form <= 1;
+    let closes = (form == 0) | (form == 3);
+    let n = count(w) as usize;
+    let first = to + usize::from(opens);
+    let last = first + n;
+    let end = last + usize::from(closes);
+    if out.len() < end {
         return None;
     }
-    put_marked(opens, EXCLUSIVE, out, to);
-    put_payload(n, w, v, out, to + head);
-    put_marked(closes, END_OF_EXCLUSIVE, out, to + head + n);
-    Some(to + all)
+    if opens {
+        out[to] = EXCLUSIVE;
+    }
+    put_payload(n, w, v, out, first);
+    if closes {
+        out[last] = END_OF_EXCLUSIVE;
+    }
+    Some(end)
 }
 
 // The six bytes of a payload as one number.
@@ -121,23 +105,13 @@ fn is_clean(w: u32, v: u32) -> bool
     }
 }
 
-// A packet of an exclusive: F0 stands before the complete and the start packet, F7 behind the complete
-// and the end packet.
+// A packet of an exclusive, of which nothing is sent where anything is bad.
 pub(crate) fn send_exclusive(w: u32, v: u32, out: &mut [u8], to: usize) -> Option<usize>
     requires { (message_type w ≡ 3) × (to ≤ length out.old) }
     ensures { Puts (sends w v) to out.old result out.new }
 {
     if is_clean(w, v) {
-        let form = status(w);
-        send_framed(
-            form <= 1,
-            (form == 0) | (form == 3),
-            count(w) as usize,
-            w,
-            v,
-            out,
-            to,
-        )
+        send_framed(w, v, out, to)
     } else {
         Some(to)
     }

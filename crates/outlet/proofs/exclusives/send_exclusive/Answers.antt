@@ -8,13 +8,12 @@ pub send_framed-requires : goal.send_framed-requires
 send_framed-requires c =
     let good = sym c.is_clean.ensures ∙ c.if-is_clean.true in
     let few = exclusive-few c.args.w c.args.v c.requires.0 good in
-    (rw c.count.ensures few, c.requires.1)
+    (few, c.requires.1)
 
 pub returns-then-is_clean : goal.returns-then-is_clean
 returns-then-is_clean c =
     let good = sym c.is_clean.ensures ∙ c.if-is_clean.true in
-    rw (exclusive-some c.args.w c.args.v c.requires.0 good)
-    (rw (c.count.ensures, c.status-form.ensures) at c.send_framed.ensures)
+    rw (exclusive-some c.args.w c.args.v c.requires.0 good) c.send_framed.ensures
 
 pub returns-else-is_clean : goal.returns-else-is_clean
 returns-else-is_clean c =
