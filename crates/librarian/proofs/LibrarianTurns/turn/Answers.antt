@@ -10,7 +10,7 @@ pub overflow_mul-result : goal.overflow_mul-result
 overflow_mul-result g c =
     omega (
       arith,
-      run-read _ _ _ _ c.gather_some-gathered.ensures.report,
+      run-read _ _ _ _ c.gather_some-done.ensures.report,
       length-take c.words_of-n.result c.words_of-n.new.words,
     )
 
@@ -18,7 +18,7 @@ pub returns : goal.returns
 returns g c =
     omega (
       arith,
-      run-read _ _ _ _ c.gather_some-gathered.ensures.report,
+      run-read _ _ _ _ c.gather_some-done.ensures.report,
       length-take c.words_of-n.result c.words_of-n.new.words,
       c.words_of-n.ensures.count,
       length-take (length c.args.self.now.words) (words_of c.args.bytes.now),
