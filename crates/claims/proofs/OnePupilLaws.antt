@@ -33,7 +33,8 @@ use Rattle.table.specs.Table.{SoundTable, one_up, run_up, stored, table_after, t
 use Rattle.table.proofs.TableLaws.{table_at, table-inside}
 use Rattle.question.specs.Question.{place_asked}
 use Rattle.pupil.specs.Only.{is_on, only, pick, voice_on}
-use Rattle.pupil.proofs.PickLaws.{pick-inside, voice-size}
+use Rattle.pupil.specs.Picking.{pick-inside}
+use Rattle.pupil.proofs.PickLaws.{voice-size}
 use Rattle.mark.specs.Mark.{record_of}
 use Rattle.claims.specs.OnePupil.{Apart, Fair, OnePupil, Outcome, Roomed, outcome_on, packets_on, words_on}
 use Rattle.claims.proofs.PacketByPacket.{proved-packet-by-packet}
