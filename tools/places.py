@@ -18,7 +18,7 @@ def sources(commit):
     """The Rattle files of src/ and the proof files, as (path, text)."""
     if commit is None:
         for at, _, names in os.walk("crates"):
-            if "/out" in at or "/target" in at:
+            if {"out", "target"} & set(at.split(os.sep)):
                 continue
             for name in names:
                 if name.endswith((".rt", ".antt")):
