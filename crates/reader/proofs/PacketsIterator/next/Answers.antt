@@ -1,30 +1,41 @@
--- `reader::Packets::next`: a packet has no more words than are left, so it can be taken off, and fewer are left then.
-use Rattle.std.proofs.Common.{◌≤◌, length, ap, arith, length-drop}
+-- `reader::Packets::next`: a packet has no more words than are left from the place on, so the place behind it lies
+-- within the words, and fewer are left then.
+use Rattle.std.proofs.Common.{◌≤◌, length, drop, ap, arith, length-drop}
 use borrow.Author.Tests.{false-eqb}
-use borrow.Rule.Slice.PartAt.{part_to_end}
 use Rattle.ump.proofs.PacketLaws.{packet-length}
 use Rattle.reader.proofs.PacketsIterator.next.Goals as goal
 
-pub slice_bounds-self-count : goal.slice_bounds-self-count
-slice_bounds-self-count c =
-    let l = c.args.self.now.left.now in
-    omega (arith, ap length c.packet_at-packet.ensures, packet-length l)
-
-pub slice_bounds-self-start : goal.slice_bounds-self-start
-slice_bounds-self-start c =
-    let l = c.args.self.now.left.now in
-    let inside : length c.packet_at-packet.result.now ≤ length l =
-    omega (arith, ap length c.packet_at-packet.ensures, packet-length l) in
-    inside
+pub overflow_add-self : goal.overflow_add-self
+overflow_add-self c =
+    let ws = c.args.self.now.words.now in
+    let at = c.args.self.now.at in
+    let some = false-eqb (length c.packet_at-packet.result.now) 0 c.if-is_empty.ensures in
+    omega (
+      arith,
+      some,
+      ap length c.packet_at-packet.ensures,
+      packet-length (drop at ws),
+      length-drop at ws,
+      c.type_inv.self,
+    )
 
 pub returns-clause-goes : goal.returns-clause-goes
 returns-clause-goes c =
-    let l = c.args.self.now.left.now in
-    let n = length c.packet_at-packet.result.now in
-    let some = false-eqb n 0 c.if-is_empty.ensures in
-    let inside : n ≤ length l = omega (arith, ap length c.packet_at-packet.ensures, packet-length l) in
+    let ws = c.args.self.now.words.now in
+    let at = c.args.self.now.at in
+    let some = false-eqb (length c.packet_at-packet.result.now) 0 c.if-is_empty.ensures in
     record {
-      on = λ _. (tt, tt, omega (arith, some, inside, ap length (part_to_end l n), length-drop n l));
+      on = λ _. (
+        tt,
+        tt,
+        (omega (
+          arith,
+          some,
+          ap length c.packet_at-packet.ensures,
+          packet-length (drop at ws),
+          length-drop at ws,
+        )),
+      );
       keeps = tt;
       rests = λ _. tt;
     }
