@@ -161,17 +161,30 @@ fn put_flex(part: &mut [u8], base: usize, words: &[u32])
     put_word(part, base + 8, words[3]);
 }
 
-// Stores the first bytes of an exclusive's packet, of which most packets have all six.
+// Stores the first N bytes of an exclusive's packet. N is known where this is called, so the copy is a few stores, and
+// the archive asks no other library for it.
+fn put_first<const N: usize>(part: &mut [u8], base: usize, w: u32, v: u32)
+    requires { (base + N ≤ length part.old) × (N ≤ 6) }
+    ensures { part.new ≡ paste part.old base (exclusive_bytes w v) N }
+{
+    let bytes = [byte3(w), byte4(w), byte1(v), byte2(v), byte3(v), byte4(v)];
+    part[base..base + N].copy_from_slice(&bytes[..N]);
+}
+
+// Stores so many bytes of an exclusive's packet as its count says, which in most packets is all six.
 fn put_exclusive(part: &mut [u8], base: usize, w: u32, v: u32, n: usize)
     requires { (base + n ≤ length part.old) × (n ≤ 6) }
     ensures { part.new ≡ paste part.old base (exclusive_bytes w v) n }
 {
-    let bytes = [byte3(w), byte4(w), byte1(v), byte2(v), byte3(v), byte4(v)];
-    if n == EXCLUSIVE_BYTES {
-        part[base..base + EXCLUSIVE_BYTES].copy_from_slice(&bytes);
-        return;
+    match n {
+        EXCLUSIVE_BYTES => put_first::<EXCLUSIVE_BYTES>(part, base, w, v),
+        5 => put_first::<5>(part, base, w, v),
+        4 => put_first::<4>(part, base, w, v),
+        3 => put_first::<3>(part, base, w, v),
+        2 => put_first::<2>(part, base, w, v),
+        1 => put_first::<1>(part, base, w, v),
+        _ => put_first::<0>(part, base, w, v),
     }
-    part[base..base + n].copy_from_slice(&bytes[..n]);
 }
 
 // Stores the bytes of the piece that the words begin with, so many as it has.

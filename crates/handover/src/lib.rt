@@ -65,7 +65,7 @@ fn changes_hands(owners: &[u8], n: usize, group: u8, host: u8) -> bool
 pub fn empty_from(table: &mut [Record], from: usize, count: usize)
     ensures { table.new ≡ Handover.emptied table.old from count }
 {
-    let end = from + count.min(table.len().saturating_sub(from));
+    let end = table.len().max(from).min(from.saturating_add(count));
     for i in from..end {
         table[i] = Record::empty();
     }
