@@ -6,7 +6,7 @@
 // Here no contract can say what is read or written, so these functions are proved to be safe and to end.
 #![tactic(auto)]
 
-ghost use Rattle.std.specs.Prelude.{◌≤◌, length, IfOk};
+ghost use Rattle.std.specs.Prelude.{◌≡◌, ◌≤◌, length, IfOk, MatchResult};
 
 use cable::{Cable, EXCLUSIVE};
 use exchange::{Export, Import, Socket};
@@ -37,16 +37,16 @@ struct Filter<S> {
 }
 
 impl<S: Socket + Drop, R: Read, W: Write, E: Write> Turns<R, W, E> for Filter<S> {
-    // Takes what came through the socket. What it came to counts where it could be written.
+    // Takes what came through the socket.
     fn turn(&mut self, streams: &mut Streams<R, W, E>, bytes: &[u8]) -> Result<Turn, Failed>
         ensures { IfOk result (λ turn. turn.read ≤ length bytes.now) }
     {
         let passed = self
             .socket
             .pass_through(bytes, &mut self.words, &mut self.text);
-        streams.write(b"standard output", &self.text, passed.bytes)?;
         let done = passed.counted.ran;
-        self.totals = self.totals.and(done, passed.counted.counts);
+        let totals = self.totals.and(done, passed.counted.counts);
+        self.write(streams, passed.bytes, totals)?;
         Ok(Turn {
             read: passed.read,
             waits: done.answer == NO_ROOM,
@@ -62,6 +62,20 @@ impl<S: Socket + Drop> Filter<S> {
             words: [0; WORDS],
             text: [0; OUTPUT_BYTES],
         }
+    }
+
+    // Writes what a turn came to. It counts only where it could be written.
+    fn write<R: Read, W: Write, E: Write>(
+        &mut self,
+        streams: &mut Streams<R, W, E>,
+        bytes: usize,
+        totals: Totals,
+    ) -> Result<(), Failed>
+        ensures { MatchResult result (λ _. self.new.totals ≡ totals) (λ _. self.new.totals ≡ self.old.totals) }
+    {
+        let written = streams.write(b"standard output", &self.text, bytes);
+        self.totals = totals.if_written(written.is_err(), self.totals);
+        written
     }
 
     // All turns: answers how many bytes are left at the end of the input.

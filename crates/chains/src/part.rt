@@ -171,13 +171,16 @@ fn put_first<const N: usize>(part: &mut [u8], base: usize, w: u32, v: u32)
     part[base..base + N].copy_from_slice(&bytes[..N]);
 }
 
-// Stores so many bytes of an exclusive's packet as its count says, which in most packets is all six.
+// Stores so many bytes of an exclusive's packet as its count says. Most packets have all six, which is asked first.
 fn put_exclusive(part: &mut [u8], base: usize, w: u32, v: u32, n: usize)
     requires { (base + n ≤ length part.old) × (n ≤ 6) }
     ensures { part.new ≡ paste part.old base (exclusive_bytes w v) n }
 {
+    if n == EXCLUSIVE_BYTES {
+        put_first::<EXCLUSIVE_BYTES>(part, base, w, v);
+        return;
+    }
     match n {
-        EXCLUSIVE_BYTES => put_first::<EXCLUSIVE_BYTES>(part, base, w, v),
         5 => put_first::<5>(part, base, w, v),
         4 => put_first::<4>(part, base, w, v),
         3 => put_first::<3>(part, base, w, v),
@@ -200,6 +203,7 @@ fn put(part: &mut [u8], base: usize, words: &[u32], n: usize)
 }
 
 // The step with the piece that the words begin with. One that is taken is stored in the chain's part.
+#[inline(always)]
 fn step(c: Chain, part: &mut [u8], words: &[u32]) -> Stepped
     requires { Standing words.now 0 }
     ensures step { result ≡ step_of c (length part.old) (piece_at words.now 0) }
@@ -222,6 +226,7 @@ fn step(c: Chain, part: &mut [u8], words: &[u32]) -> Stepped
 }
 
 // The same with the whole buffer, for chain k: what is lent to the step is that chain's own part.
+#[inline(always)]
 pub(crate) fn take(c: Chain, buffer: &mut [u8], k: usize, words: &[u32]) -> Stepped
     requires { (k < 32) × Standing words.now 0 }
     ensures step { result ≡ step_of c (share buffer.old) (piece_at words.now 0) }

@@ -28,6 +28,15 @@ const OUTPUT_WORDS: usize = 0x4000;
 
 const OUTPUT_BYTES: usize = 0x10000;
 
+// What all turns came to: the table and the totals after them, and how many bytes are left at the end of the input,
+// which are a packet that is cut.
+#[derive(Clone, Copy)]
+struct Ran {
+    table: Table,
+    totals: Totals,
+    left: Result<usize, Failed>,
+}
+
 // What goes on from one turn to the next, and the buffers of a turn: the words of the input, those sent, and
 // the bytes to write.
 #[derive(Drop)]
@@ -63,17 +72,6 @@ impl<P: Program + Drop, R: Read, W: Write, E: Write> Turns<R, W, E> for Filter<P
 }
 
 impl<P: Program + Drop> Filter<P> {
-    fn new(program: P, table: Table) -> Filter<P> {
-        Filter {
-            program,
-            table,
-            totals: Totals::zero(),
-            words: [0; INPUT_WORDS],
-            sent: [0; OUTPUT_WORDS],
-            text: [0; OUTPUT_BYTES],
-        }
-    }
-
     // Writes what a turn came to. It counts only where it could be written.
     fn write<R: Read, W: Write, E: Write>(
         &mut self,
@@ -83,39 +81,46 @@ impl<P: Program + Drop> Filter<P> {
     ) -> Result<(), Failed>
         ensures { MatchResult result (λ _. self.new.totals ≡ totals) (λ _. self.new.totals ≡ self.old.totals) }
     {
-        streams.write(b"standard output", &self.text, bytes)?;
-        self.totals = totals;
-        Ok(())
+        let written = streams.write(b"standard output", &self.text, bytes);
+        self.totals = totals.if_written(written.is_err(), self.totals);
+        written
     }
+}
 
-    // All turns: answers how many bytes are left at the end of the input, which are a packet that is cut.
-    fn run<R: Read, W: Write, E: Write>(
-        &mut self,
-        streams: &mut Streams<R, W, E>,
-    ) -> Result<usize, Failed> {
-        let mut bytes = [0u8; INPUT_BYTES];
-        streams.run(b"standard input", &mut bytes, 0, self)
+// All turns of a program from a table on. The buffers are made here, where they stay, since a struct of them that is
+// handed out would be copied, and take its room on the stack once more.
+fn run<P: Program + Drop, R: Read, W: Write, E: Write>(
+    streams: &mut Streams<R, W, E>,
+    program: P,
+    table: Table,
+) -> Ran {
+    let mut filter = Filter {
+        program,
+        table,
+        totals: Totals::zero(),
+        words: [0; INPUT_WORDS],
+        sent: [0; OUTPUT_WORDS],
+        text: [0; OUTPUT_BYTES],
+    };
+    let mut bytes = [0u8; INPUT_BYTES];
+    let left = streams.run(b"standard input", &mut bytes, 0, &mut filter);
+    Ran {
+        table: filter.table,
+        totals: filter.totals,
+        left,
     }
+}
 
-    // Says how much was read and written, what was refused and whether the input ended within a packet.
-    fn say<E: Write>(&self, errors: &mut E, name: &[u8], left: Result<usize, Failed>) {
-        let totals = &self.totals;
+impl Ran {
+    // Says how much was read and, where that is given, written, what was refused and whether the input ended within a
+    // packet.
+    fn say<E: Write>(&self, errors: &mut E, name: &[u8], written: Option<Amount<'_>>) {
         let read = Amount {
-            number: totals.read,
+            number: self.totals.read,
             word: b" words",
         };
-        let written = Amount {
-            number: totals.written,
-            word: b"",
-        };
-        notice::say_end(
-            errors,
-            name,
-            read,
-            Some(written),
-            &totals.counts,
-            ending(left),
-        );
+        let counts = &self.totals.counts;
+        notice::say_end(errors, name, read, written, counts, ending(self.left));
     }
 }
 
@@ -139,9 +144,12 @@ fn run_and_say<P: Program + Drop, R: Read, W: Write, E: Write>(
     program: P,
     table: Table,
 ) {
-    let mut filter = Filter::new(program, table);
-    let left = filter.run(streams);
-    filter.say(&mut streams.errors, name, left);
+    let ran = run(streams, program, table);
+    let written = Amount {
+        number: ran.totals.written,
+        word: b"",
+    };
+    ran.say(&mut streams.errors, name, Some(written));
 }
 
 fn fresh() -> Table {
@@ -155,7 +163,7 @@ pub fn listing<V: Env, R: Read, W: Write, E: Write>(env: &V, streams: &mut Strea
     let Ok(table) = start::taken(env, &mut streams.errors, b"listing") else {
         return;
     };
-    if is_cut(Filter::new(Lines, table).run(streams)) {
+    if is_cut(run(streams, Lines, table).left) {
         let _ = streams.write(b"standard output", b"3 0\n", 4);
     }
 }
@@ -198,22 +206,9 @@ pub fn panel<V: Env, R: Read, W: Write, E: Write>(env: &V, streams: &mut Streams
     let Ok(table) = start::taken(env, &mut streams.errors, b"panel") else {
         return;
     };
-    let mut filter = Filter::new(Panel, table);
-    let left = filter.run(streams);
-    if left.is_ok() {
-        show(streams, filter.table);
+    let ran = run(streams, Panel, table);
+    if ran.left.is_ok() {
+        show(streams, ran.table);
     }
-    let read = Amount {
-        number: filter.totals.read,
-        word: b" words",
-    };
-    let counts = &filter.totals.counts;
-    notice::say_end(
-        &mut streams.errors,
-        b"panel",
-        read,
-        None,
-        counts,
-        ending(left),
-    );
+    ran.say(&mut streams.errors, b"panel", None);
 }

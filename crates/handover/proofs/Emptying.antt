@@ -2,11 +2,13 @@
 -- Assumes nothing.
 use Prim.Native.Nat.{ℕ, zero, suc, ◌+◌, ◌-◌, ◌≤◌, ◌<◌, min}
 use mathlib.Core.Path.{◌≡◌, refl, sym, ap, ◌∙◌}
-use mathlib.Core.List.{List, [], ◌∷◌}
+use mathlib.Core.List.{List, [], ◌∷◌, ◌++◌}
 use native.Mathlib.Omega.{arith}
 use lib.Dec.{eqb, leb}
-use lib.ListN.{get_or, length, length-set, set}
-use lib.Seq.{get_or-set_other, set_out}
+use lib.ListN.{drop, get_or, length, length-drop, length-set, length-take, set, take}
+use lib.Seq.{get_or-set_other, length-take-le, set-append_left, set_out}
+use borrow.Rule.Slice.PartMut.{mid_of, post_of, put_mid, put_same}
+use Rattle.std.proofs.lemmas.List.{set-append_right}
 use borrow.Author.Tests.{eqb-false, eqb-true, leb-false, leb-true}
 use Rattle.ground.proofs.Cases.{by_bool}
 use Rattle.channel.specs.declared.Record.{Record}
@@ -77,3 +79,27 @@ module _ (t : List Record) (k : ℕ) where
   emptied-outside (suc n) i h =
       get_or-set_other (emptied t k n) (k + n) i empty empty (λ e. h (omega (arith, e)) (omega (arith, e)))
       ∙ emptied-outside n i (λ a b. h a (omega (arith, b)))
+
+-- emptying the first records of a part is emptying them from where the part begins
+pub emptied-part : (t : List Record) (i n : ℕ) → i + n ≤ length t → (m : ℕ) → m ≤ n
+    → put_mid i n t (emptied (mid_of i n t) 0 m) ≡ emptied t i m
+unfolding emptied
+emptied-part t i n inside zero h = put_same i n t
+emptied-part t i n inside (suc m) h =
+    let row = emptied (mid_of i n t) 0 m in
+    let rest = post_of i n t in
+    let long : m < length row = omega (
+      arith,
+      h,
+      inside,
+      length-emptied (mid_of i n t) 0 m,
+      length-take n (drop i t),
+      length-drop i t,
+    ) in
+    let here : set (row ++ rest) m empty ≡ set row m empty ++ rest = set-append_left row rest m empty long in
+    let there = set-append_right (take i t) (row ++ rest) i (i + m) empty
+      (length-take-le i t (omega (arith, inside))) (omega arith) in
+    let same : i + m - i ≡ m = omega arith in
+    ap (λ (k : ℕ). take i t ++ (set row k empty ++ rest)) {x = 0 + m} {y = m} (omega arith)
+    ∙ sym (ap (λ (z : List Record). take i t ++ z) here) ∙ sym (rw same at there)
+    ∙ ap (λ (l : List Record). set l (i + m) empty) (emptied-part t i n inside m (omega (arith, h)))

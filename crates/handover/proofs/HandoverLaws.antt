@@ -1,6 +1,6 @@
 -- What giving a group does: a group that changes hands has empty records and its new host, every other group is as it
 -- was, and a refusal changes nothing. Assumes nothing.
-use Prim.Native.Nat.{ℕ, zero, suc, ◌/◌, ◌<◌, ◌≤◌}
+use Prim.Native.Nat.{ℕ, zero, suc, ◌+◌, ◌/◌, ◌<◌, ◌≤◌}
 use mathlib.Core.Path.{◌≡◌, refl, sym, ap, ◌∙◌}
 use mathlib.Core.Logic.{◌≢◌}
 use mathlib.Core.Bool.{Bool, true, false, false≢true, cond, not, ◌&&◌}
@@ -72,6 +72,12 @@ module _ (owners : List ℕ) (n group host : ℕ) where
 
   pub changes-inside : moves ≡ true → group < length owners
   changes-inside e = given_inside (changes-answer e)
+
+  -- and all its records stand in the table
+  pub changes-row : moves ≡ true → first_of group + channels ≤ n
+  changes-row e =
+      let a = changes-answer e in
+      omega (arith, given-whole a, given-group a)
 
   -- and one that is given to the host that has it does not
   pub same-stays : group_owner owners group ≡ host → moves ≡ false

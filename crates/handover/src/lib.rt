@@ -65,7 +65,7 @@ fn changes_hands(owners: &[u8], n: usize, group: u8, host: u8) -> bool
 pub fn empty_from(table: &mut [Record], from: usize, count: usize)
     ensures { table.new ≡ Handover.emptied table.old from count }
 {
-    let end = table.len().max(from).min(from.saturating_add(count));
+    let end = from + count.min(table.len().saturating_sub(from));
     for i in from..end {
         table[i] = Record::empty();
     }
@@ -83,6 +83,7 @@ pub fn give(owners: &mut [u8], table: &mut [Record], group: u8, host: u8) -> u32
     }
     owners[group as usize] = host;
     let first = ump::record_number(Group(group), Channel(0));
-    empty_from(table, first, CHANNELS);
+    // Lent the group's own records, so that how many turns the loop makes is known here.
+    empty_from(&mut table[first..first + CHANNELS], 0, CHANNELS);
     answer
 }

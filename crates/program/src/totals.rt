@@ -1,4 +1,6 @@
 // What the buffers of a program came to, all together.
+ghost use Rattle.std.specs.Prelude.{◌≡◌, if◌then◌else◌};
+
 use stream::Done;
 use tally::Counts;
 
@@ -26,5 +28,12 @@ impl Totals {
             written: self.written.wrapping_add(done.written as u64),
             counts: self.counts.and(more),
         }
+    }
+
+    // Those before a buffer where what it came to could not be written, so that nothing counts that was not.
+    pub fn if_written(self, failed: bool, before: Totals) -> Totals
+        ensures { result ≡ (if failed then before else self) }
+    {
+        if failed { before } else { self }
     }
 }

@@ -128,6 +128,7 @@ fn sent_answer(sent: usize) -> u32
 }
 
 // The packet at a place of the words, after what was read and written so far, under a rule.
+#[inline(always)]
 pub fn down(words: &[u32], past: Done, out: &mut [u32], rule: Rule) -> Done
     ensures report { result ≡ report_of past (next words.now past) out.old
         (packet_down_by rule (next words.now past)) }

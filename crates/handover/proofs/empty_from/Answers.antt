@@ -15,4 +15,4 @@ pub returns : goal.returns
 returns c =
     let l = c.loop-i in
     emptied-end c.args.table.now c.args.from l.table l.i c.args.count
-    (omega (arith, c.loop-i-test.false, l.auto.i-end, c.min-end.ensures, c.max.ensures, c.saturating_add.ensures)) l.invariant
+    (omega (arith, c.loop-i-test.false, l.auto.i-end, c.min.ensures, c.saturating_sub.ensures)) l.invariant
