@@ -98,7 +98,7 @@ emptied-part t i n inside (suc m) h =
     ) in
     let here : set (row ++ rest) m empty ≡ set row m empty ++ rest = set-append_left row rest m empty long in
     let there = set-append_right (take i t) (row ++ rest) i (i + m) empty
-      (length-take-le i t (omega (arith, inside))) (omega arith) in
+    (length-take-le i t (omega (arith, inside))) (omega arith) in
     let same : i + m - i ≡ m = omega arith in
     ap (λ (k : ℕ). take i t ++ (set row k empty ++ rest)) {x = 0 + m} {y = m} (omega arith)
     ∙ sym (ap (λ (z : List Record). take i t ++ z) here) ∙ sym (rw same at there)
