@@ -1,10 +1,17 @@
 -- What a message does to its channel's record (RULES 5.7): one of five things.
-use Rattle.std.specs.Prelude.{ℕ}
+use Rattle.std.specs.Prelude.{ℕ, cond, eqb}
 use Rattle.keys.specs.Keys.{empty_keys, pressed, released}
 use Rattle.memory.specs.declared.Memory.{Memory}
 use Rattle.channel.specs.declared.Record.{Record}
 use Rattle.effect.specs.declared.Effect.{Effect}
 use Rattle.effect.specs.declared.Effect.TheVariants.{Leaves, Presses, Releases, ReleasesAll, Remembers}
+
+-- each by its number: a note's effect has the number of its status, and every other number releases the key as a Note
+-- Off does
+unfoldable pub numbered : ℕ → Effect
+numbered n =
+    cond (eqb n 0) Leaves
+    (cond (eqb n 1) Remembers (cond (eqb n 2) ReleasesAll (cond (eqb n 9) Presses Releases)))
 
 -- the record after an effect: `after` is what is then remembered, and `key` the message's key
 unfoldable pub effected : Record → Effect → Memory → ℕ → Record

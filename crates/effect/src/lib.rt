@@ -5,7 +5,7 @@
 #![tactic(auto)]
 
 ghost use Rattle.std.specs.Prelude.{◌≡◌};
-ghost use Rattle.effect.specs.Effect.{effected};
+ghost use Rattle.effect.specs.Effect.{effected, numbered};
 
 use channel::Record;
 use keys::Keys;
@@ -20,6 +20,22 @@ pub enum Effect {
     ReleasesAll,
     Releases,
     Presses,
+}
+
+// Every number names an effect, so that a caller who has a number can ask what it does.
+impl From<u32> for Effect {
+    ghost from_gives = { λ number effect. effect ≡ numbered number };
+
+    #[tactic(auto, unfolding(crate::specs::Effect::numbered))]
+    fn from(number: u32) -> Effect {
+        match number {
+            0 => Effect::Leaves,
+            1 => Effect::Remembers,
+            2 => Effect::ReleasesAll,
+            9 => Effect::Presses,
+            _ => Effect::Releases,
+        }
+    }
 }
 
 // The record after an effect, with what is then remembered and the message's key.

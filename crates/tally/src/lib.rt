@@ -42,10 +42,10 @@ pub fn sort_found(found: Result<(), Refusal>) -> u64
     }
 }
 
-// How often each sort came, at its number.
+// How often each sort came, at its number. Any numbers are counts, so a caller with its own may hand them over.
 #[derive(Clone, Copy)]
 pub struct Counts {
-    times: [u64; SORTS],
+    pub times: [u64; SORTS],
 }
 
 impl Counts {
