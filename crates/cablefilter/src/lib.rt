@@ -6,7 +6,7 @@
 // Here no contract can say what is read or written, so these functions are proved to be safe and to end.
 #![tactic(auto)]
 
-ghost use Rattle.std.specs.Prelude.{◌≡◌, ◌≤◌, length, IfOk, MatchResult};
+ghost use Rattle.std.specs.Prelude.{◌≡◌, ◌≤◌, length, IfErr, IfOk, MatchResult};
 
 use cable::{Cable, EXCLUSIVE};
 use exchange::{Export, Import, Socket};
@@ -39,7 +39,8 @@ struct Filter<S> {
 impl<S: Socket + Drop, R: Read, W: Write, E: Write> Turns<R, W, E> for Filter<S> {
     // Takes what came through the socket.
     fn turn(&mut self, streams: &mut Streams<R, W, E>, bytes: &[u8]) -> Result<Turn, Failed>
-        ensures { IfOk result (λ turn. turn.read ≤ length bytes.now) }
+        ensures inside { IfOk result (λ turn. turn.read ≤ length bytes.now) }
+        ensures counted { IfErr result (λ _. self.new.totals ≡ self.old.totals) }
     {
         let passed = self
             .socket

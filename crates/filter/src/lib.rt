@@ -7,7 +7,7 @@
 // these functions are proved to be safe and to end.
 #![tactic(auto)]
 
-ghost use Rattle.std.specs.Prelude.{◌≡◌, ◌≤◌, length, IfOk, MatchResult};
+ghost use Rattle.std.specs.Prelude.{◌≡◌, ◌≤◌, length, IfErr, IfOk, MatchResult};
 
 use flow::{PANEL_BYTES, Table};
 use notice::{Amount, Ending};
@@ -52,7 +52,8 @@ struct Filter<P> {
 impl<P: Program + Drop, R: Read, W: Write, E: Write> Turns<R, W, E> for Filter<P> {
     // Translates the whole packets.
     fn turn(&mut self, streams: &mut Streams<R, W, E>, bytes: &[u8]) -> Result<Turn, Failed>
-        ensures { IfOk result (λ turn. turn.read ≤ length bytes.now) }
+        ensures inside { IfOk result (λ turn. turn.read ≤ length bytes.now) }
+        ensures counted { IfErr result (λ _. self.new.totals ≡ self.old.totals) }
     {
         let n = wire::words_of(bytes, &mut self.words);
         let done = self.program.translate(
