@@ -39,7 +39,7 @@ pub slice_bounds-empty_from-end : goal.slice_bounds-empty_from-end
 slice_bounds-empty_from-end c =
     let a = c.args in
     let e = sym c.changes_hands.ensures ∙ c.if-not-changes_hands.false in
-    rw c.record_number-first.ensures (changes-row a.owners.now (length a.table.now) a.group a.host e)
+    omega (arith, c.record_number-first.ensures, changes-row a.owners.now (length a.table.now) a.group a.host e)
 
 pub returns-clause-table : goal.returns-clause-table
 unfolding table_given
