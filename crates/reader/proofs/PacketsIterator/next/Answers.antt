@@ -1,6 +1,6 @@
 -- `reader::Packets::next`: a packet has no more words than are left from the place on, so the place behind it lies
 -- within the words, and fewer are left then.
-use Rattle.std.proofs.Common.{◌≤◌, length, drop, ap, arith, length-drop}
+use Rattle.std.proofs.Common.{length, drop, ap, arith, length-drop}
 use borrow.Author.Tests.{false-eqb}
 use Rattle.ump.proofs.PacketLaws.{packet-length}
 use Rattle.reader.proofs.PacketsIterator.next.Goals as goal

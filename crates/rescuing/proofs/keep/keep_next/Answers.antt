@@ -9,4 +9,5 @@ use Rattle.rescuing.proofs.keep.keep_next.Goals as goal
 pub returns-in_default-clause-output : goal.returns-in_default-clause-output
 unfolding Rescue.keep within
 returns-in_default-clause-output c =
-    rw (← c.packets_from.ensures, c.in_default.ensures.steps.1) (sym (written_none c.args.past.written c.args.out.now))
+    rw (← c.packets_from.ensures.0, ← c.packets_from.ensures.1, c.in_default.ensures.steps.2)
+    (sym (written_none c.args.past.written c.args.out.now))
