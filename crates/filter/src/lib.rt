@@ -37,32 +37,29 @@ struct Ran {
     left: Result<usize, Failed>,
 }
 
-// What goes on from one turn to the next, and the buffers of a turn: the words of the input, those sent, and
-// the bytes to write.
+// What goes on from one turn to the next, and the buffers of a turn: the words of the input, and the room that is lent
+// for those sent and for the bytes to write.
 #[derive(Drop)]
-struct Filter<P> {
+struct Filter<'a, P> {
     program: P,
     table: Table,
     totals: Totals,
     words: [u32; INPUT_WORDS],
-    sent: [u32; OUTPUT_WORDS],
-    text: [u8; OUTPUT_BYTES],
+    sent: &'a mut [u32],
+    text: &'a mut [u8],
 }
 
-impl<P: Program + Drop, R: Read, W: Write, E: Write> Turns<R, W, E> for Filter<P> {
+impl<P: Program + Drop, R: Read, W: Write, E: Write> Turns<R, W, E> for Filter<'_, P> {
     // Translates the whole packets.
     fn turn(&mut self, streams: &mut Streams<R, W, E>, bytes: &[u8]) -> Result<Turn, Failed>
         ensures inside { IfOk result (λ turn. turn.read ≤ length bytes.now) }
         ensures counted { IfErr result (λ _. self.new.totals ≡ self.old.totals) }
     {
         let n = wire::words_of(bytes, &mut self.words);
-        let done = self.program.translate(
-            self.table,
-            self.totals,
-            &self.words[..n],
-            &mut self.sent,
-            &mut self.text,
-        );
+        let program = self.program;
+        let table = self.table;
+        let totals = self.totals;
+        let done = program.translate(table, totals, &self.words[..n], self.sent, self.text);
         self.table = done.table;
         self.write(streams, done.bytes, done.totals)?;
         Ok(Turn {
@@ -72,7 +69,7 @@ impl<P: Program + Drop, R: Read, W: Write, E: Write> Turns<R, W, E> for Filter<P
     }
 }
 
-impl<P: Program + Drop> Filter<P> {
+impl<P: Program + Drop> Filter<'_, P> {
     // Writes what a turn came to. It counts only where it could be written.
     fn write<R: Read, W: Write, E: Write>(
         &mut self,
@@ -82,26 +79,28 @@ impl<P: Program + Drop> Filter<P> {
     ) -> Result<(), Failed>
         ensures { MatchResult result (λ _. self.new.totals ≡ totals) (λ _. self.new.totals ≡ self.old.totals) }
     {
-        let written = streams.write(b"standard output", &self.text, bytes);
+        let written = streams.write(b"standard output", self.text, bytes);
         self.totals = totals.if_written(written.is_err(), self.totals);
         written
     }
 }
 
-// All turns of a program from a table on. The buffers are made here, where they stay, since a struct of them that is
-// handed out would be copied, and take its room on the stack once more.
+// All turns of a program from a table on. The room for words that are sent and for bytes to write is lent, so that a
+// program which needs none of the one has none of it on the stack.
 fn run<P: Program + Drop, R: Read, W: Write, E: Write>(
     streams: &mut Streams<R, W, E>,
     program: P,
     table: Table,
+    sent: &mut [u32],
+    text: &mut [u8],
 ) -> Ran {
     let mut filter = Filter {
         program,
         table,
         totals: Totals::zero(),
         words: [0; INPUT_WORDS],
-        sent: [0; OUTPUT_WORDS],
-        text: [0; OUTPUT_BYTES],
+        sent,
+        text,
     };
     let mut bytes = [0u8; INPUT_BYTES];
     let left = streams.run(b"standard input", &mut bytes, 0, &mut filter);
@@ -145,7 +144,9 @@ fn run_and_say<P: Program + Drop, R: Read, W: Write, E: Write>(
     program: P,
     table: Table,
 ) {
-    let ran = run(streams, program, table);
+    let mut sent = [0u32; OUTPUT_WORDS];
+    let mut text = [0u8; OUTPUT_BYTES];
+    let ran = run(streams, program, table, &mut sent, &mut text);
     let written = Amount {
         number: ran.totals.written,
         word: b"",
@@ -164,7 +165,8 @@ pub fn listing<V: Env, R: Read, W: Write, E: Write>(env: &V, streams: &mut Strea
     let Ok(table) = start::taken(env, &mut streams.errors, b"listing") else {
         return;
     };
-    if is_cut(run(streams, Lines, table).left) {
+    let mut text = [0u8; OUTPUT_BYTES];
+    if is_cut(run(streams, Lines, table, &mut [], &mut text).left) {
         let _ = streams.write(b"standard output", b"3 0\n", 4);
     }
 }
@@ -207,7 +209,8 @@ pub fn panel<V: Env, R: Read, W: Write, E: Write>(env: &V, streams: &mut Streams
     let Ok(table) = start::taken(env, &mut streams.errors, b"panel") else {
         return;
     };
-    let ran = run(streams, Panel, table);
+    let mut sent = [0u32; OUTPUT_WORDS];
+    let ran = run(streams, Panel, table, &mut sent, &mut []);
     if ran.left.is_ok() {
         show(streams, ran.table);
     }

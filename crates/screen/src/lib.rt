@@ -158,7 +158,6 @@ fn check_voice1(w: u32) -> Result<(), Refusal>
 
 // A packet, or the empty part where none is whole, where voice messages of the type `wrong`, if one is given, are
 // refused, under a rule.
-#[inline(always)]
 #[tactic(auto, unfolding(crate::specs::Screen::screen_by))]
 pub fn screen_by(rule: Rule, wrong: Option<u32>, packet: &[u32]) -> Result<(), Refusal>
     ensures { result ≡ judged (screen_by rule (wrong_of wrong) packet.now) }
