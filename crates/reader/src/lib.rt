@@ -23,6 +23,13 @@ pub fn packets_from(words: &[u32], at: usize) -> Packets<'_>
 }
 
 impl<'a> Packets<'a> {
+    // The packet at the place, and an empty part where no whole one is left there.
+    pub fn packet(self) -> &'a [u32]
+        ensures { result.now ≡ Packet.packet (drop self.entry.at self.entry.words.now) }
+    {
+        ump::packet_at(self.words, self.at)
+    }
+
     // The words that are left: those from the place on.
     pub fn left(self) -> &'a [u32]
         ensures { result.now ≡ drop self.entry.at self.entry.words.now }
@@ -42,7 +49,7 @@ impl<'a> Iterator for Packets<'a> {
     ghost remaining = { λ packets. at_most (length packets.words.now - packets.at) };
 
     fn next(&mut self) -> Option<&'a [u32]> {
-        let packet = ump::packet_at(self.words, self.at);
+        let packet = self.packet();
         if packet.is_empty() {
             return None;
         }
