@@ -56,6 +56,8 @@ impl<P: Program + Drop, R: Read, W: Write, E: Write> Turns<R, W, E> for Filter<'
         ensures counted { IfErr result (λ _. self.new.totals ≡ self.old.totals) }
     {
         let n = wire::words_of(bytes, &mut self.words);
+        // Read into variables first: the check does not cover a field that is read while the room behind another is
+        // lent.
         let program = self.program;
         let table = self.table;
         let totals = self.totals;
